@@ -1,0 +1,2 @@
+pub mod WordsLaws
+pub mod Propagation

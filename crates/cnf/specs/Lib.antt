@@ -1,0 +1,2 @@
+pub mod Clause
+pub mod Words

@@ -1,0 +1,3 @@
+pub mod ShapedLaws
+pub mod ReachLaws
+pub mod SoundLaws

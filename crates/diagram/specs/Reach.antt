@@ -1,0 +1,26 @@
+-- Where a layer's edges may lead, as one range of references: nodes stand in the list in the order of their layers.
+-- What the functions inside `check` say to each other. Assumes nothing.
+use mathlib.Core.Path.{_≡_}
+use mathlib.Core.Bool.{Bool, not, _&&_, _||_}
+use mathlib.Core.List.{List}
+use Prim.Native.Nat.{ℕ, _≤_, _<_}
+use lib.ListN.{length, getD}
+use lib.Dec.{ltb, leb}
+use Rattle.diagram.specs.Lent.{Lent}
+use Rattle.diagram.specs.Rules.{permits}
+use Rattle.diagram.specs.declared.Reach.{Reach}
+
+-- end is the first node from `from` on whose layer is above i
+pub record LayerEnd (ls : List ℕ) (from i end : ℕ) : Type 0 where
+  pub from-on : from ≤ end
+  pub to-last : end ≤ length ls
+  pub until : (v : ℕ) → from ≤ v → v < end → getD ls v 0 ≤ i
+  pub above : end < length ls → i < getD ls end 0
+
+-- a reference that is none of the reach
+abbrev pub stray : Reach → ℕ → Bool
+stray r t = not (ltb t (r .ends)) && (ltb t (r .low) || leb (r .high) t)
+
+-- the reach is where edges of layer i may lead
+abbrev pub Reaches : Lent → ℕ → Reach → Type 0
+Reaches d i r = (t : ℕ) → stray r t ≡ not (permits d i t)

@@ -1,0 +1,183 @@
+-- Laws of the first index at which a test holds: a loop's three exits, and that the index is the least. Assumes nothing.
+use mathlib.Core.Path.{_≡_, refl, sym, _∙_, ap}
+use mathlib.Core.Bool.{Bool, true, false, cond}
+use mathlib.Core.Logic.{_⊎_, inl, inr, ⊎-elim, _↔_}
+use Prim.Native.Nat.{ℕ, zero, suc, _+_, _-_, _≤_, _<_}
+use native.Mathlib.Numerals.{add-one}
+use native.Mathlib.Nat.{not-suc-le-zero}
+use native.Mathlib.Omega.{arith}
+use Rattle.lists.specs.Upto.{sumTo, countTo}
+use Rattle.lists.specs.First.{foundIf, orFound, first, FirstFailing}
+use Rattle.lists.specs.declared.Found.{Found}
+use Rattle.lists.specs.declared.Found.the-variants.{Nothing, At}
+use Rattle.lists.proofs.UptoLaws.{last-or-below, below-or-not, decide, sum-more, sum-most}
+
+pub if-none : (b : Bool) (k : ℕ) → foundIf b k ≡ Nothing → b ≡ false
+if-none false k e = refl
+if-none true k e = cc
+
+pub if-at : (b : Bool) (k p : ℕ) → foundIf b k ≡ At p → (b ≡ true) × (p ≡ k)
+if-at false k p e = (cc, cc)
+if-at true k p e = (refl, cc)
+
+or-none : (f g : Found) → orFound f g ≡ Nothing → (f ≡ Nothing) × (g ≡ Nothing)
+or-none Nothing g e = (refl, e)
+or-none (At i) g e = (e, cc)
+
+or-at : (f g : Found) (p : ℕ) → orFound f g ≡ At p → (f ≡ At p) ⊎ ((f ≡ Nothing) × (g ≡ At p))
+or-at Nothing g p e = inr (refl, e)
+or-at (At i) g p e = inl e
+
+-- nothing is not an index
+pub found-one : (f : Found) {p : ℕ} → f ≡ Nothing → f ≡ At p → ⊥
+found-one f e g = let z : _≡_ {A = ℕ} 0 1 = cc in absurd (omega arith)
+
+module _ (bad : ℕ → Bool) where
+  -- a loop begins, passes an index, stops at one, comes to the end
+  pub start : first bad 0 ≡ Nothing
+  unfolding first
+  start = refl
+
+  pub pass : (i : ℕ) → first bad i ≡ Nothing → bad i ≡ false → first bad (i + 1) ≡ Nothing
+  unfolding first
+  pass i p q = rw (add-one, p, q)
+
+  pub stop : (i n : ℕ) → first bad i ≡ Nothing → bad i ≡ true → i < n → At i ≡ first bad n
+  unfolding first
+  stop i zero p q h = absurd (not-suc-le-zero h)
+  stop i (suc n) p q h = go (λ l. stop i n p q l) (last-or-below i n h)
+    where
+      go : (i < n → At i ≡ first bad n) → (i ≡ n) ⊎ (i < n) → At i ≡ first bad (suc n)
+      go r (inl l) = rw (← l, p, q)
+      go r (inr l) = rw (← (r l))
+
+  pub end : (i n : ℕ) → first bad i ≡ Nothing → i ≤ n → n ≤ i → Nothing ≡ first bad n
+  end i n p h l = let e : i ≡ n = omega arith in rw (← e, p)
+
+  -- nothing is found exactly when the test holds nowhere below n
+  pub none-bad : (n : ℕ) → first bad n ≡ Nothing → (k : ℕ) → k < n → bad k ≡ false
+  unfolding first
+  none-bad zero e k h = absurd (not-suc-le-zero h)
+  none-bad (suc n) e k h =
+      let w = or-none (first bad n) (foundIf (bad n) n) e in
+      ⊎-elim (λ (l : k ≡ n). ap bad l ∙ if-none (bad n) n (w .1)) (λ l. none-bad n (w .0) k l) (last-or-below k n h)
+
+  pub bad-none : (n : ℕ) → ((k : ℕ) → k < n → bad k ≡ false) → first bad n ≡ Nothing
+  unfolding first
+  bad-none zero g = refl
+  bad-none (suc n) g = rw (bad-none n (λ k h. g k (omega arith)), g n (omega arith))
+
+  -- p is found exactly when it is the least index below n at which the test holds
+  pub found-least : (n p : ℕ) → first bad n ≡ At p → (p < n) × (bad p ≡ true) × ((k : ℕ) → k < p → bad k ≡ false)
+  unfolding first
+  found-least zero p e = let z : _≡_ {A = ℕ} 0 1 = cc in absurd (omega arith)
+  found-least (suc n) p e = go (or-at (first bad n) (foundIf (bad n) n) p e) (found-least n p)
+    where
+      go : (first bad n ≡ At p) ⊎ ((first bad n ≡ Nothing) × (foundIf (bad n) n ≡ At p)) → (first bad n ≡ At p → (p < n) × (bad p ≡ true) × ((k : ℕ) → k < p → bad k ≡ false)) → (p < suc n) × (bad p ≡ true) × ((k : ℕ) → k < p → bad k ≡ false)
+      go (inl l) r = let w = r l in let h : p < n = w .0 in (omega arith, w .1, w .2)
+      go (inr l) r =
+          let a = if-at (bad n) n p (l .1) in
+          let q : p ≡ n = a .1 in
+          (omega arith, ap bad q ∙ a .0, λ k h. none-bad n (l .0) k (omega arith))
+
+  pub least-found : (n p : ℕ) → p < n → bad p ≡ true → ((k : ℕ) → k < p → bad k ≡ false) → first bad n ≡ At p
+  least-found n p h e g = sym (stop p n (bad-none p g) e h)
+
+-- a search that goes on from a, where none below a is bad
+module _ (bad : ℕ → Bool) (a : ℕ) (e : first bad a ≡ Nothing) where
+  before : (k i : ℕ) → ((j : ℕ) → j < k → bad (a + j) ≡ false) → i < a + k → bad i ≡ false
+  before k i g h = go (below-or-not i a)
+    where
+      go : (i < a) ⊎ (a ≤ i) → bad i ≡ false
+      go (inl l) = none-bad bad a e i l
+      go (inr l) = let q : i ≡ a + (i - a) = omega arith in ap bad q ∙ g (i - a) (omega arith)
+
+  pub on-none : (k : ℕ) → first (λ j. bad (a + j)) k ≡ Nothing → first bad (a + k) ≡ Nothing
+  on-none k g = bad-none bad (a + k) (λ i h. before k i (none-bad (λ j. bad (a + j)) k g) h)
+
+  pub on-found : (k p n : ℕ) → first (λ j. bad (a + j)) k ≡ At p → a + k ≤ n → first bad n ≡ At (a + p)
+  on-found k p n g h =
+      let w = found-least (λ j. bad (a + j)) k p g in
+      let l : p < k = w .0 in
+      least-found bad n (a + p) (omega arith) (w .1) (λ i l. before p i (w .2) l)
+
+-- two tests that agree below n
+pub first-agrees : (f g : ℕ → Bool) (n : ℕ) → ((k : ℕ) → k < n → f k ≡ g k) → first f n ≡ first g n
+unfolding first
+first-agrees f g zero h = refl
+first-agrees f g (suc n) h = rw (first-agrees f g n (λ k l. h k (omega arith)), h n (omega arith))
+
+-- where a count is none, so is the search
+module _ (bad : ℕ → Bool) where
+  pub count-start : countTo 0 bad ≡ 0
+  unfolding countTo sumTo
+  count-start = refl
+
+  pub count-pass : (n : ℕ) → bad n ≡ false → countTo (n + 1) bad ≡ countTo n bad
+  unfolding countTo
+  count-pass n e = sum-more (λ k. cond (bad k) 1 0) n ∙ rw e (omega arith)
+
+  pub count-found : (n : ℕ) → bad n ≡ true → countTo (n + 1) bad ≡ countTo n bad + 1
+  unfolding countTo
+  count-found n e = sum-more (λ k. cond (bad k) 1 0) n ∙ rw e
+
+  pub count-most : (n : ℕ) → countTo n bad ≤ n
+  unfolding countTo
+  count-most n = omega (arith, sum-most (λ k. cond (bad k) 1 0) 1 n (λ k h. one (bad k)))
+    where
+      one : (b : Bool) → cond b 1 0 ≤ 1
+      one true = omega arith
+      one false = omega arith
+
+  pub count-none : (n : ℕ) → countTo n bad ≡ 0 → first bad n ≡ Nothing
+  unfolding countTo sumTo first
+  count-none zero e = refl
+  count-none (suc n) e = go (bad n) refl (count-none n)
+    where
+      go : (b : Bool) → bad n ≡ b → (countTo n bad ≡ 0 → first bad n ≡ Nothing) → first bad (suc n) ≡ Nothing
+      go true q r = absurd (omega (arith, rw q at e))
+      go false q r = rw (r (omega (arith, rw q at e)), q)
+
+-- a test and what it is for: it finds p exactly when what is asked for is missing at p, and nothing exactly when all is well
+pub record Tests (found : Found) (Missing : ℕ → Type 0) (Well : Type 0) : Type 0 where
+  pub at : (p : ℕ) → (found ≡ At p) ↔ Missing p
+  pub none : (found ≡ Nothing) ↔ Well
+
+-- a search, where below n the test is true exactly of the indices of which P fails
+module _ (bad : ℕ → Bool) (P : ℕ → Type 0) (n : ℕ) (good : (k : ℕ) → k < n → bad k ≡ false → P k) (not-good : (k : ℕ) → k < n → bad k ≡ true → P k → ⊥) where
+  holds : (k : ℕ) → k < n → P k → bad k ≡ false
+  holds k h p = ⊎-elim (λ (e : bad k ≡ true). absurd (not-good k h e p)) (λ (e : bad k ≡ false). e) (decide (bad k))
+
+  fails : (k : ℕ) → k < n → (P k → ⊥) → bad k ≡ true
+  fails k h p = ⊎-elim (λ (e : bad k ≡ true). e) (λ (e : bad k ≡ false). absurd (p (good k h e))) (decide (bad k))
+
+  failing : (p : ℕ) → first bad n ≡ At p → FirstFailing n P p
+  failing p e =
+      let w = found-least bad n p e in
+      let l : p < n = w .0 in
+      record { below = l; fails = not-good p l (w .1); least = λ k h. good k (omega arith) (w .2 k h) }
+
+  found-failing : (p : ℕ) → FirstFailing n P p → first bad n ≡ At p
+  found-failing p r =
+      let l : p < n = r .below in
+      least-found bad n p l (fails p l (r .fails)) (λ k h. holds k (omega arith) (r .least k h))
+
+  pub tests-each : Tests (first bad n) (FirstFailing n P) ((k : ℕ) → k < n → P k)
+  tests-each =
+      record {
+        at = λ p. (failing p, found-failing p);
+        none = ((λ e k h. good k h (none-bad bad n e k h)), (λ g. bad-none bad n (λ k h. holds k h (g k h))));
+      }
+
+-- one test, due at place 0 where a condition fails
+pub tests-one : (bad : Bool) (P : Type 0) → (bad ≡ false → P) → (bad ≡ true → P → ⊥) → Tests (foundIf bad 0) (λ p. (p ≡ 0) × (P → ⊥)) P
+tests-one true P good not-good =
+    record {
+      at = λ p. ((λ e. (if-at true 0 p e .1, not-good refl)), (λ w. ap At (sym (w .0))));
+      none = ((λ e. absurd (found-one (At 0) e refl)), (λ h. absurd (not-good refl h)));
+    }
+tests-one false P good not-good =
+    record {
+      at = λ p. ((λ e. absurd (found-one Nothing refl e)), (λ w. absurd (w .1 (good refl))));
+      none = ((λ e. good refl), (λ h. refl));
+    }

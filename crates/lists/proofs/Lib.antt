@@ -1,0 +1,4 @@
+pub mod UptoLaws
+pub mod FirstLaws
+pub mod BufferLaws
+pub mod SignedLaws

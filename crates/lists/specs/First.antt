@@ -1,0 +1,26 @@
+-- The first index at which a test holds, and what it is to be the least of some indices. Assumes nothing.
+use mathlib.Core.Bool.{Bool, true, false}
+use Prim.Native.Nat.{ℕ, zero, suc, _<_}
+use Rattle.lists.specs.declared.Found.{Found}
+use Rattle.lists.specs.declared.Found.the-variants.{Nothing, At}
+
+-- k where the test holds
+abbrev pub foundIf : Bool → ℕ → Found
+foundIf true k = At k
+foundIf false k = Nothing
+
+-- the first search's answer, or the second's where that found nothing
+abbrev pub orFound : Found → Found → Found
+orFound (At k) g = At k
+orFound Nothing g = g
+
+-- the first index below n at which the test holds
+unfoldable pub first : (ℕ → Bool) → ℕ → Found
+first bad zero = Nothing
+first bad (suc n) = orFound (first bad n) (foundIf (bad n) n)
+
+-- p is the least index below n of which P does not hold
+pub record FirstFailing (n : ℕ) (P : ℕ → Type 0) (p : ℕ) : Type 0 where
+  pub below : p < n
+  pub fails : P p → ⊥
+  pub least : (k : ℕ) → k < p → P k

@@ -1,0 +1,4 @@
+pub mod Upto
+pub mod First
+pub mod Buffer
+pub mod Signed

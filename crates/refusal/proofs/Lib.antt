@@ -1,0 +1,3 @@
+pub mod RulesLaws
+pub mod SaidLaws
+pub mod TableLaws

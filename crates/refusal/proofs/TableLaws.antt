@@ -1,0 +1,180 @@
+-- A rule list that computes what a table's rows say gives its verdict exactly when the table does. Assumes nothing.
+use mathlib.Core.Path.{_≡_, refl, sym, _∙_, ap, subst}
+use mathlib.Core.Bool.{Bool, true, false, not, cond, _&&_}
+use mathlib.Core.List.{List, [], _∷_, _++_, List·Memᴰ, List·Memᴰ·head, List·Memᴰ·tail, List·Memᴰ·not-nil, List·Memᴰ·cases-cons}
+use mathlib.Core.Logic.{_⊎_, inl, inr, ⊎-elim, _↔_}
+use Prim.Native.Nat.{ℕ}
+use native.Mathlib.Omega.{arith}
+use lib.Dec.{T, eqb}
+use borrow.Author.Tests.{eqb-true, eqb-false, eq-eqb, ne-eqb}
+use Rattle.lists.specs.declared.Found.{Found}
+use Rattle.lists.specs.declared.Found.the-variants.{Nothing, At}
+use Rattle.lists.proofs.FirstLaws.{found-one}
+use Rattle.refusal.specs.Rules.{Rule, rule, refusal, ruled, chain}
+use Rattle.refusal.specs.Table.{Row, row, numbers, before, either, DueIn, ExactlyWhen}
+use Rattle.refusal.specs.declared.Refusal.{Refusal}
+use Rattle.refusal.specs.declared.Verdict.{Verdict}
+use Rattle.refusal.specs.declared.Verdict.the-variants.{Passed, Refused}
+
+-- n is not among the numbers; each number stands once: tests that compute
+abbrev lacks : ℕ → List ℕ → Bool
+lacks n [] = true
+lacks n (m ∷ ms) = not (eqb m n) && lacks n ms
+
+abbrev pub eachOnce : List ℕ → Bool
+eachOnce [] = true
+eachOnce (m ∷ ms) = lacks m ms && eachOnce ms
+
+-- each rule has its row's number, and computes the place at which the row is due
+abbrev pub Faithful : List Rule → List Row → Type 0
+Faithful [] [] = Unit {0}
+Faithful [] (r ∷ table) = ⊥
+Faithful (r ∷ rules) [] = ⊥
+Faithful (rule n found ∷ rules) (row m due ∷ table) = (n ≡ m) × ((p : ℕ) → (found ≡ At p) ↔ due p) × Faithful rules table
+
+pub faithful-append : (xs ys : List Rule) (ts us : List Row) → Faithful xs ts → Faithful ys us → Faithful (xs ++ ys) (ts ++ us)
+faithful-append [] ys [] us f g = g
+faithful-append [] ys (t ∷ ts) us f g = absurd f
+faithful-append (x ∷ xs) ys [] us f g = absurd f
+faithful-append (rule n found ∷ xs) ys (row m due ∷ ts) us f g = (f .0, f .1, faithful-append xs ys ts us (f .2) g)
+
+and-both : (a b : Bool) → T (a && b) → T a × T b
+and-both true b t = (tt, t)
+and-both false b t = absurd t
+
+other : (n m : ℕ) (ms : List ℕ) → T (lacks m ms) → List·Memᴰ n ms → eqb m n ≡ false
+other n m [] t h = absurd (List·Memᴰ·not-nil h)
+other n m (k ∷ ms) t h =
+    let w = and-both (not (eqb k m)) (lacks m ms) t in
+    ⊎-elim (λ (e : n ≡ k). ne-eqb m n (λ q. subst (λ (b : Bool). T (not b)) (eq-eqb k m (sym (q ∙ e))) (w .0))) (λ l. other n m ms (w .1) l) (List·Memᴰ·cases-cons h)
+
+nowhere : (found : Found) → ((p : ℕ) → found ≡ At p → ⊥) → found ≡ Nothing
+nowhere Nothing h = refl
+nowhere (At p) h = absurd (h p refl)
+
+parts : (n p m q : ℕ) → _≡_ {A = Verdict} (Refused (refusal n p)) (Refused (refusal m q)) → (n ≡ m) × (p ≡ q)
+parts n p m q e = (ap number e, ap place e)
+  where
+    number : Verdict → ℕ
+    number Passed = 0
+    number (Refused r) = r .number
+
+    place : Verdict → ℕ
+    place Passed = 0
+    place (Refused r) = r .place
+
+-- ---- where a row of a table stands
+
+due-first : (m : ℕ) (due : ℕ → Type 0) (table : List Row) (n p : ℕ) → m ≡ n → due p → DueIn (row m due ∷ table) n p
+due-first m due table n p e h = subst (λ (b : Bool). either b (due p) (DueIn table n p)) (sym (eq-eqb m n e)) h
+
+first-due : (m : ℕ) (due : ℕ → Type 0) (table : List Row) (p : ℕ) → DueIn (row m due ∷ table) m p → due p
+first-due m due table p h = subst (λ (b : Bool). either b (due p) (DueIn table m p)) (eq-eqb m m refl) h
+
+due-later : (m : ℕ) (due : ℕ → Type 0) (table : List Row) (n p : ℕ) → eqb m n ≡ false → DueIn table n p → DueIn (row m due ∷ table) n p
+due-later m due table n p e h = subst (λ (b : Bool). either b (due p) (DueIn table n p)) (sym e) h
+
+later-due : (m : ℕ) (due : ℕ → Type 0) (table : List Row) (n p : ℕ) → eqb m n ≡ false → DueIn (row m due ∷ table) n p → DueIn table n p
+later-due m due table n p e h = subst (λ (b : Bool). either b (due p) (DueIn table n p)) e h
+
+due-number : (table : List Row) (n p : ℕ) → DueIn table n p → List·Memᴰ n (numbers table)
+due-number [] n p h = absurd h
+due-number (row m due ∷ table) n p h = go (eqb m n) refl h (due-number table n p)
+  where
+    go : (b : Bool) → eqb m n ≡ b → either b (due p) (DueIn table n p) → (DueIn table n p → List·Memᴰ n (numbers table)) → List·Memᴰ n (m ∷ numbers table)
+    go true e h r = List·Memᴰ·head (sym (eqb-true m n e))
+    go false e h r = List·Memᴰ·tail (r h)
+
+before-numbers : (n m : ℕ) (order : List ℕ) → List·Memᴰ m (before n order) → List·Memᴰ m order
+before-numbers n m [] h = h
+before-numbers n m (k ∷ order) h = go (eqb k n) h (before-numbers n m order)
+  where
+    go : (b : Bool) → List·Memᴰ m (cond b [] (k ∷ before n order)) → (List·Memᴰ m (before n order) → List·Memᴰ m order) → List·Memᴰ m (k ∷ order)
+    go true h r = absurd (List·Memᴰ·not-nil h)
+    go false h r = ⊎-elim (λ (e : m ≡ k). List·Memᴰ·head e) (λ l. List·Memᴰ·tail (r l)) (List·Memᴰ·cases-cons h)
+
+-- no row that is looked for before n is due
+abbrev Free : List Row → ℕ → Type 0
+Free table n = (m q : ℕ) → List·Memᴰ m (before n (numbers table)) → DueIn table m q → ⊥
+
+free-first : (m : ℕ) (due : ℕ → Type 0) (table : List Row) (n : ℕ) → m ≡ n → Free (row m due ∷ table) n
+free-first m due table n e k q h r = List·Memᴰ·not-nil (rw (eq-eqb m n e) at h)
+
+free-later : (m : ℕ) (due : ℕ → Type 0) (table : List Row) (n : ℕ) → T (lacks m (numbers table)) → eqb m n ≡ false → ((q : ℕ) → due q → ⊥) → Free table n → Free (row m due ∷ table) n
+free-later m due table n t e none free k q h r = ⊎-elim first rest (List·Memᴰ·cases-cons (rw e at h))
+  where
+    first : k ≡ m → ⊥
+    first i = none q (first-due m due table q (subst (λ (j : ℕ). DueIn (row m due ∷ table) j q) i r))
+
+    rest : List·Memᴰ k (before n (numbers table)) → ⊥
+    rest l = free k q l (later-due m due table k q (other k m (numbers table) t (before-numbers n k (numbers table) l)) r)
+
+free-rest : (m : ℕ) (due : ℕ → Type 0) (table : List Row) (n : ℕ) → T (lacks m (numbers table)) → eqb m n ≡ false → Free (row m due ∷ table) n → ((q : ℕ) → due q → ⊥) × Free table n
+free-rest m due table n t e free = (
+  (λ q d. free m q (rw e (List·Memᴰ·head refl)) (due-first m due table m q refl d)),
+  (λ k q h r. free k q (rw e (List·Memᴰ·tail h)) (due-later m due table k q (other k m (numbers table) t (before-numbers n k (numbers table) h)) r)),
+)
+
+-- ---- the verdict
+
+told : (rules : List Rule) (table : List Row) → Faithful rules table → T (eachOnce (numbers table)) → (n p : ℕ) → chain rules ≡ Refused (refusal n p) → DueIn table n p × Free table n
+unfolding chain
+told [] [] f t n p e = let z : _≡_ {A = ℕ} 0 1 = cc in absurd (omega arith)
+told [] (r ∷ table) f t n p e = absurd f
+told (r ∷ rules) [] f t n p e = absurd f
+told (rule k (At q) ∷ rules) (row m due ∷ table) f t n p e =
+    let w = parts k q n p e in
+    let i : m ≡ n = sym (f .0) ∙ w .0 in
+    (due-first m due table n p i (f .1 p .0 (ap At (w .1))), free-first m due table n i)
+told (rule k Nothing ∷ rules) (row m due ∷ table) f t n p e =
+    let u = and-both (lacks m (numbers table)) (eachOnce (numbers table)) t in
+    let w = told rules table (f .2) (u .1) n p e in
+    let i = other n m (numbers table) (u .0) (due-number table n p (w .0)) in
+    (due-later m due table n p i (w .0), free-later m due table n (u .0) i (λ q d. found-one Nothing refl (f .1 q .1 d)) (w .1))
+
+tells : (rules : List Rule) (table : List Row) → Faithful rules table → T (eachOnce (numbers table)) → (n p : ℕ) → DueIn table n p → Free table n → chain rules ≡ Refused (refusal n p)
+unfolding chain
+tells [] [] f t n p r g = absurd r
+tells [] (x ∷ table) f t n p r g = absurd f
+tells (x ∷ rules) [] f t n p r g = absurd f
+tells (rule k found ∷ rules) (row m due ∷ table) f t n p r g = go (eqb m n) refl (tells rules table (f .2) (u .1) n p)
+  where
+    u : T (lacks m (numbers table)) × T (eachOnce (numbers table))
+    u = and-both (lacks m (numbers table)) (eachOnce (numbers table)) t
+
+    go : (b : Bool) → eqb m n ≡ b → (DueIn table n p → Free table n → chain rules ≡ Refused (refusal n p)) → ruled k found (chain rules) ≡ Refused (refusal n p)
+    go true e s =
+        let i = eqb-true m n e in
+        rw (f .1 p .1 (first-due m due table p (subst (λ (j : ℕ). DueIn (row m due ∷ table) j p) (sym i) r))) (ap (λ (j : ℕ). Refused (refusal j p)) (f .0 ∙ i))
+    go false e s =
+        let w = free-rest m due table n (u .0) e g in
+        rw (nowhere found (λ q d. w .0 q (f .1 q .0 d))) (s (later-due m due table n p e r) (w .1))
+
+none-due : (rules : List Rule) (table : List Row) → Faithful rules table → chain rules ≡ Passed → (n p : ℕ) → DueIn table n p → ⊥
+unfolding chain
+none-due [] [] f e n p r = r
+none-due [] (x ∷ table) f e n p r = f
+none-due (x ∷ rules) [] f e n p r = r
+none-due (rule k (At q) ∷ rules) (row m due ∷ table) f e n p r = let z : _≡_ {A = ℕ} 0 1 = cc in absurd (omega arith)
+none-due (rule k Nothing ∷ rules) (row m due ∷ table) f e n p r = go (eqb m n) r (none-due rules table (f .2) e n p)
+  where
+    go : (b : Bool) → either b (due p) (DueIn table n p) → (DueIn table n p → ⊥) → ⊥
+    go true d s = found-one Nothing refl (f .1 p .1 d)
+    go false d s = s d
+
+all-pass : (rules : List Rule) (table : List Row) → Faithful rules table → T (eachOnce (numbers table)) → ((n p : ℕ) → DueIn table n p → ⊥) → chain rules ≡ Passed
+unfolding chain
+all-pass [] [] f t g = refl
+all-pass [] (x ∷ table) f t g = absurd f
+all-pass (x ∷ rules) [] f t g = absurd f
+all-pass (rule k found ∷ rules) (row m due ∷ table) f t g =
+    let u = and-both (lacks m (numbers table)) (eachOnce (numbers table)) t in
+    rw (nowhere found (λ q d. g m q (due-first m due table m q refl (f .1 q .0 d))))
+    (all-pass rules table (f .2) (u .1) (λ n p r. g n p (due-later m due table n p (other n m (numbers table) (u .0) (due-number table n p r)) r)))
+
+pub exactly-when : (rules : List Rule) (table : List Row) → Faithful rules table → T (eachOnce (numbers table)) → ExactlyWhen table (chain rules)
+exactly-when rules table f t =
+    record {
+      refuses = λ n p. ((λ e. told rules table f t n p e), (λ w. tells rules table f t n p (w .0) (w .1)));
+      passes = ((λ e n p r. none-due rules table f e n p r), (λ g. all-pass rules table f t g));
+    }

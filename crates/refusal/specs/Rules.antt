@@ -1,0 +1,24 @@
+-- A list of rules, and its verdict: the first rule that is due decides. Assumes nothing.
+use mathlib.Core.List.{List, [], _∷_}
+use Prim.Native.Nat.{ℕ}
+use Rattle.lists.specs.declared.Found.{Found}
+use Rattle.lists.specs.declared.Found.the-variants.{Nothing, At}
+use Rattle.refusal.specs.declared.Refusal.{Refusal}
+use Rattle.refusal.specs.declared.Verdict.{Verdict}
+use Rattle.refusal.specs.declared.Verdict.the-variants.{Passed, Refused}
+
+-- a refusal's number, and the place at which it is due, if at any
+pub data Rule : Type 0 where
+  rule : ℕ → Found → Rule
+
+abbrev pub refusal : ℕ → ℕ → Refusal
+refusal n p = record { number = n; place = p }
+
+-- refused where the rule is due, and otherwise what the later rules say
+abbrev pub ruled : ℕ → Found → Verdict → Verdict
+ruled n (At p) later = Refused (refusal n p)
+ruled n Nothing later = later
+
+unfoldable pub chain : List Rule → Verdict
+chain [] = Passed
+chain (rule n due ∷ rules) = ruled n due (chain rules)

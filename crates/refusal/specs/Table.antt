@@ -1,0 +1,39 @@
+-- A table of refusals, as a person writes it: for each number, in the order in which the numbers are looked for, the
+-- condition under which it is due at a place. Assumes nothing.
+use mathlib.Core.Path.{_≡_}
+use mathlib.Core.Bool.{Bool, true, false, cond}
+use mathlib.Core.List.{List, [], _∷_, List·Memᴰ}
+use mathlib.Core.Logic.{_↔_}
+use Prim.Native.Nat.{ℕ}
+use lib.Dec.{eqb}
+use Rattle.refusal.specs.Rules.{refusal}
+use Rattle.refusal.specs.declared.Verdict.{Verdict}
+use Rattle.refusal.specs.declared.Verdict.the-variants.{Passed, Refused}
+
+-- a number, and what it is that it is due at a place
+pub data Row : Type 1 where
+  row : ℕ → (ℕ → Type 0) → Row
+
+abbrev pub numbers : List Row → List ℕ
+numbers [] = []
+numbers (row n due ∷ rows) = n ∷ numbers rows
+
+-- the numbers that are looked for before n
+abbrev pub before : ℕ → List ℕ → List ℕ
+before n [] = []
+before n (m ∷ order) = cond (eqb m n) [] (m ∷ before n order)
+
+abbrev pub either : Bool → Type 0 → Type 0 → Type 0
+either true A B = A
+either false A B = B
+
+-- the table's row n is due at place p
+abbrev pub DueIn : List Row → ℕ → ℕ → Type 0
+DueIn [] n p = ⊥
+DueIn (row m due ∷ rows) n p = either (eqb m n) (due p) (DueIn rows n p)
+
+-- the verdict is n at p exactly when row n is due at p and no row that is looked for before it is due anywhere;
+-- it passes exactly when no row is due
+pub record ExactlyWhen (table : List Row) (verdict : Verdict) : Type 0 where
+  pub refuses : (n p : ℕ) → (verdict ≡ Refused (refusal n p)) ↔ (DueIn table n p × ((m q : ℕ) → List·Memᴰ m (before n (numbers table)) → DueIn table m q → ⊥))
+  pub passes : (verdict ≡ Passed) ↔ ((n p : ℕ) → DueIn table n p → ⊥)
