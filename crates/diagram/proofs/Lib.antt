@@ -1,3 +1,5 @@
 pub mod ShapedLaws
 pub mod ReachLaws
 pub mod SoundLaws
+pub mod AllowsLaws
+pub mod CheckLaws

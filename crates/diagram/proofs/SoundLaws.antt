@@ -1,5 +1,4 @@
--- The rules say what the table says: each number is given exactly when its row is due, and a diagram passes exactly
--- when it is sound. Assumes nothing.
+-- The rules compute what the table says, and a diagram passes them exactly when it is sound. Assumes nothing.
 use mathlib.Core.Path.{_≡_, refl, sym, _∙_, ap, subst}
 use mathlib.Core.Bool.{Bool, true, false, not, _&&_, true≢false}
 use mathlib.Core.List.{List, [], _∷_, _++_}
@@ -15,10 +14,9 @@ use Rattle.lists.specs.declared.Found.the-variants.{Nothing, At}
 use Rattle.lists.proofs.UptoLaws.{sum-split, sum-within}
 use Rattle.lists.proofs.FirstLaws.{Tests, tests-one, tests-each}
 use Rattle.refusal.specs.Rules.{rule, chain}
-use Rattle.refusal.specs.Table.{ExactlyWhen}
 use Rattle.refusal.specs.declared.Verdict.the-variants.{Passed}
 use Rattle.refusal.proofs.RulesLaws.{passed, not-due}
-use Rattle.refusal.proofs.TableLaws.{Faithful, exactly-when}
+use Rattle.refusal.proofs.TableLaws.{Faithful}
 use Rattle.diagram.specs.Lent.{Lent, options, nodes, domain, layer, width, firstEdge, edges, leads, target}
 use Rattle.diagram.specs.Sound.{Within, LayerFits, Permitted, to-false, to-true, to-node, TargetFits, Shaped, Sound, checkTable}
 use Rattle.diagram.specs.Rules.{permits, badTarget, optionRules, nodeRules, targetRules, checkRules}
@@ -76,10 +74,6 @@ module _ (d : Lent) where
   pub check-faithful : Faithful (checkRules d) (checkTable d)
   unfolding checkRules optionRules nodeRules targetRules
   check-faithful = (refl, tests-1 d .at, (refl, tests-2 d .at, (refl, tests-3 d .at, (refl, tests-4 d .at, (refl, tests-5 .at, (refl, tests-6 .at, tt))))))
-
-  -- each number from 1 to 6 is given exactly when its row is due and none before it is
-  pub check-exactly-when : ExactlyWhen (checkTable d) (chain (checkRules d))
-  check-exactly-when = exactly-when (checkRules d) (checkTable d) check-faithful tt
 
   -- ---- a sound diagram
 

@@ -172,9 +172,11 @@ all-pass (rule k found ∷ rules) (row m due ∷ table) f t g =
     rw (nowhere found (λ q d. g m q (due-first m due table m q refl (f .1 q .0 d))))
     (all-pass rules table (f .2) (u .1) (λ n p r. g n p (due-later m due table n p (other n m (numbers table) (u .0) (due-number table n p r)) r)))
 
-pub exactly-when : (rules : List Rule) (table : List Row) → Faithful rules table → T (eachOnce (numbers table)) → ExactlyWhen table (chain rules)
-exactly-when rules table f t =
-    record {
-      refuses = λ n p. ((λ e. told rules table f t n p e), (λ w. tells rules table f t n p (w .0) (w .1)));
-      passes = ((λ e n p r. none-due rules table f e n p r), (λ g. all-pass rules table f t g));
-    }
+-- for any answer that is a refusal where the verdict is, and something else where it passes
+module _ (rules : List Rule) (table : List Row) (f : Faithful rules table) (t : T (eachOnce (numbers table))) where
+  pub exactly-when : {Given : ℕ → ℕ → Type 0} {Well : Type 0} → ((n p : ℕ) → Given n p ↔ (chain rules ≡ Refused (refusal n p))) → (Well ↔ (chain rules ≡ Passed)) → ExactlyWhen table Given Well
+  exactly-when g w =
+      record {
+        refused = λ n p. ((λ e. told rules table f t n p (g n p .0 e)), (λ h. g n p .1 (tells rules table f t n p (h .0) (h .1))));
+        passed = ((λ e n p r. none-due rules table f (w .0 e) n p r), (λ h. w .1 (all-pass rules table f t h)));
+      }

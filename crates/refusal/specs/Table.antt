@@ -1,14 +1,10 @@
 -- A table of refusals, as a person writes it: for each number, in the order in which the numbers are looked for, the
 -- condition under which it is due at a place. Assumes nothing.
-use mathlib.Core.Path.{_≡_}
 use mathlib.Core.Bool.{Bool, true, false, cond}
 use mathlib.Core.List.{List, [], _∷_, List·Memᴰ}
 use mathlib.Core.Logic.{_↔_}
 use Prim.Native.Nat.{ℕ}
 use lib.Dec.{eqb}
-use Rattle.refusal.specs.Rules.{refusal}
-use Rattle.refusal.specs.declared.Verdict.{Verdict}
-use Rattle.refusal.specs.declared.Verdict.the-variants.{Passed, Refused}
 
 -- a number, and what it is that it is due at a place
 pub data Row : Type 1 where
@@ -32,8 +28,8 @@ abbrev pub DueIn : List Row → ℕ → ℕ → Type 0
 DueIn [] n p = ⊥
 DueIn (row m due ∷ rows) n p = either (eqb m n) (due p) (DueIn rows n p)
 
--- the verdict is n at p exactly when row n is due at p and no row that is looked for before it is due anywhere;
--- it passes exactly when no row is due
-pub record ExactlyWhen (table : List Row) (verdict : Verdict) : Type 0 where
-  pub refuses : (n p : ℕ) → (verdict ≡ Refused (refusal n p)) ↔ (DueIn table n p × ((m q : ℕ) → List·Memᴰ m (before n (numbers table)) → DueIn table m q → ⊥))
-  pub passes : (verdict ≡ Passed) ↔ ((n p : ℕ) → DueIn table n p → ⊥)
+-- number n is given at place p exactly when row n is due at p and no row that is looked for before it is due anywhere;
+-- nothing is refused exactly when no row is due
+pub record ExactlyWhen (table : List Row) (Given : ℕ → ℕ → Type 0) (Passed : Type 0) : Type 0 where
+  pub refused : (n p : ℕ) → Given n p ↔ (DueIn table n p × ((m q : ℕ) → List·Memᴰ m (before n (numbers table)) → DueIn table m q → ⊥))
+  pub passed : Passed ↔ ((n p : ℕ) → DueIn table n p → ⊥)

@@ -1,0 +1,48 @@
+-- What `judge` promises for every input: its whole answer. Assumes nothing.
+use mathlib.Core.Path.{_≡_, refl, sym, _∙_, ap}
+use mathlib.Core.Bool.{Bool, cond}
+use mathlib.Core.List.{List, [], _∷_}
+use Prim.Native.Nat.{ℕ}
+use lib.Dec.{eqb}
+use native.Mathlib.Omega.{arith}
+use Rattle.refusal.specs.Rules.{chain}
+use Rattle.refusal.specs.Said.{Said, refused, result, saying}
+use Rattle.refusal.proofs.SaidLaws.{refused-one}
+use Rattle.diagram.specs.Lent.{Lent, held, end}
+use Rattle.judge.specs.Build.{buildRules, judgeRules}
+use Rattle.judge.specs.declared.Judged.{Judged}
+use Rattle.judge.specs.declared.Judged.the-variants.{Allowed, NotAllowed, Refused}
+use Rattle.judge.specs.declared.JudgeAnswer.{JudgeAnswer}
+
+-- the number and the values of each case
+abbrev pub judgeSaid : Judged → Said
+judgeSaid Allowed = result (1 ∷ [])
+judgeSaid NotAllowed = result (0 ∷ [])
+judgeSaid (Refused r) = refused r
+
+-- the test of `Allows`: the walk of the build ends at T
+abbrev pub allowsTest : Lent → List ℕ → Bool
+allowsTest d build = eqb (end d (held build) 2) 1
+
+pub record JudgePromise (d : Lent) (build : List ℕ) (answer : JudgeAnswer) : Type 0 where
+  pub says : judgeSaid (answer .outcome) ≡ saying (chain (judgeRules d build)) (cond (allowsTest d build) 1 0 ∷ [])
+
+-- the same once the diagram has passed: what the functions inside `judge` say to each other
+pub record JudgedSound (d : Lent) (build : List ℕ) (answer : JudgeAnswer) : Type 0 where
+  pub says : judgeSaid (answer .outcome) ≡ saying (chain (buildRules d build)) (cond (allowsTest d build) 1 0 ∷ [])
+
+-- no two cases say the same
+pub judge-said-once : (a b : Judged) → judgeSaid a ≡ judgeSaid b → a ≡ b
+judge-said-once Allowed Allowed p = refl
+judge-said-once Allowed NotAllowed p = let q = ap (λ (s : Said). s .values) p in cc
+judge-said-once Allowed (Refused r) p = let q = ap (λ (s : Said). s .values) p in cc
+judge-said-once NotAllowed Allowed p = let q = ap (λ (s : Said). s .values) p in cc
+judge-said-once NotAllowed NotAllowed p = refl
+judge-said-once NotAllowed (Refused r) p = let q = ap (λ (s : Said). s .values) p in cc
+judge-said-once (Refused r) Allowed p = let q = ap (λ (s : Said). s .values) p in cc
+judge-said-once (Refused r) NotAllowed p = let q = ap (λ (s : Said). s .values) p in cc
+judge-said-once (Refused r) (Refused s) p = ap Refused (refused-one r s p)
+
+-- any two outcomes that the promise allows are equal
+pub judge-one-outcome : (d : Lent) (build : List ℕ) (a b : JudgeAnswer) → JudgePromise d build a → JudgePromise d build b → a ≡ b
+judge-one-outcome d build a b p q = ap (λ (o : Judged). record { outcome = o }) (judge-said-once (a .outcome) (b .outcome) (p .says ∙ sym (q .says)))
