@@ -193,10 +193,9 @@ fn ends_of(domains: &[u32], layer: u32) -> u32
     ensures { λ r. ⌜ r ≡ cond (eqb layer (length (now (domains .entry)))) 2 1 ⌝ }
 {
     if layer as usize == domains.len() {
-        2
-    } else {
-        1
+        return 2;
     }
+    1
 }
 
 fn reach_of(domains: &[u32], layers: &[u32], v: usize, next: usize) -> Reach
