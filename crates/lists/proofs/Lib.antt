@@ -2,3 +2,4 @@ pub mod UptoLaws
 pub mod FirstLaws
 pub mod BufferLaws
 pub mod SignedLaws
+pub mod AnswerLaws
