@@ -18,9 +18,21 @@ use Rattle.lists.proofs.FirstLaws.{first-agrees}
 use Rattle.diagram.specs.Lent.{Lent, lent, options, nodes, domain, layer, asked, width, firstEdge, edges, leads, target}
 use Rattle.diagram.specs.Sound.{Within, LayerFits, Shaped}
 use Rattle.diagram.specs.Rules.{permits, owner, badTarget}
-use Rattle.diagram.specs.Reach.{LayerEnd, stray, Reaches}
+use Rattle.diagram.specs.Reach.{NoneAbove, LayerEnd, stray, Reaches}
 use Rattle.diagram.specs.declared.Reach.{Reach}
 use Rattle.diagram.proofs.ShapedLaws.{layer-within, layers-rise, edges-more, edges-rise, edges-room}
+
+-- nodes of layers up to i: none yet, and then some more
+pub none-yet : (ls : List ℕ) (from i : ℕ) → from ≤ length ls → NoneAbove ls from i from
+none-yet ls from i h = record { from-on = le-refl from; to-last = h; until = λ v l k. absurd (omega arith) }
+
+pub some-more : {ls : List ℕ} {from i v : ℕ} (w : ℕ) → NoneAbove ls from i v → v ≤ w → w ≤ length ls → ((u : ℕ) → v ≤ u → u < w → getD ls u 0 ≤ i) → NoneAbove ls from i w
+some-more {v = v} w a l h f =
+    record {
+      from-on = omega (arith, a .from-on);
+      to-last = h;
+      until = λ u p q. ⊎-elim (λ (k : u < v). a .until u p k) (λ (k : v ≤ u). f u k q) (below-or-not u v);
+    }
 
 -- the part of a list from a to before e
 pub part-length : (l : List ℕ) (a e : ℕ) → e ≤ length l → length (take (e - a) (drop a l)) ≡ e - a
@@ -49,17 +61,17 @@ module _ (d : Lent) (s : Shaped d) (v next : ℕ) (hv : v < nodes d) (end : Laye
     where
       stays : next ≤ v → ⊥
       stays l =
-          let e : next ≡ v = omega (arith, end .from-on) in
+          let e : next ≡ v = omega (arith, end .none-above .from-on) in
           let a : layer d v < layer d next = end .above (omega arith) in
           omega (arith, ap (layer d) e)
 
   same-layer : (w : ℕ) → v ≤ w → w < next → layer d w ≡ layer d v
-  same-layer w l k = omega (arith, end .until w l k, end .to-last, layers-rise d s v w l (let q : next ≤ nodes d = end .to-last in omega arith))
+  same-layer w l k = omega (arith, end .none-above .until w l k, end .none-above .to-last, layers-rise d s v w l (let q : next ≤ nodes d = end .none-above .to-last in omega arith))
 
   pub stretch : firstEdge d v + (next - v) * width d v ≡ firstEdge d next
   unfolding firstEdge
   stretch =
-      let e : v + (next - v) ≡ next = omega (arith, end .from-on) in
+      let e : v + (next - v) ≡ next = omega (arith, end .none-above .from-on) in
       sym (sum-stretch (width d) (width d v) v (next - v) (λ w l k. ap (λ (i : ℕ). domain d (i - 1)) (same-layer w l (omega arith)))) ∙ ap (λ (n : ℕ). sumTo n (width d)) e
 
   -- an edge of the stretch is of a node of the layer
@@ -96,15 +108,15 @@ module _ (d : Lent) (s : Shaped d) (v next : ℕ) (hv : v < nodes d) (end : Laye
     having : (w : ℕ) → next ≤ w → w < after → permits d (layer d v) (suc (suc w)) ≡ true
     unfolding permits
     having w l k =
-        let h : w < nodes d = omega (arith, next-end .to-last) in
+        let h : w < nodes d = omega (arith, next-end .none-above .to-last) in
         let a : layer d v < layer d next = end .above (omega arith) in
         let b : layer d next ≤ layer d w = layers-rise d s next w l h in
-        let c : layer d w ≤ layer d v + 1 = next-end .until w l k in
+        let c : layer d w ≤ layer d v + 1 = next-end .none-above .until w l k in
         rw (lt-ltb (layer d v) (options d) (omega (arith, layer-within d s w h)), lt-ltb w (nodes d) h, eq-eqb (layer d w) (layer d v + 1) (omega arith))
 
     too-low : (w : ℕ) → w < next → w < nodes d → layer d w ≡ layer d v + 1 → ⊥
     too-low w k h q =
-        ⊎-elim (λ (l : w < v). omega (arith, layers-rise d s w v (omega arith) hv)) (λ (l : v ≤ w). omega (arith, end .until w l k)) (below-or-not w v)
+        ⊎-elim (λ (l : w < v). omega (arith, layers-rise d s w v (omega arith) hv)) (λ (l : v ≤ w). omega (arith, end .none-above .until w l k)) (below-or-not w v)
 
     too-high : (w : ℕ) → after ≤ w → w < nodes d → layer d w ≡ layer d v + 1 → ⊥
     too-high w l h q = omega (arith, next-end .above (omega arith), layers-rise d s after w l h)

@@ -9,7 +9,7 @@ use native.Mathlib.Numerals.{unary-clauses}
 use native.Mathlib.Omega.{arith}
 use lib.ListN.{length, getD}
 use lib.Dec.{ltb, eqb}
-use borrow.Author.Tests.{ltb-true, ltb-false, eqb-true, eqb-false, not-true, not-false}
+use borrow.Author.Tests.{ltb-true, ltb-false, eqb-true, eqb-false, ne-eqb, not-true, not-false}
 use Rattle.lists.specs.Upto.{sumTo}
 use Rattle.lists.specs.First.{foundIf, first, FirstFailing}
 use Rattle.lists.proofs.UptoLaws.{sum-none, sum-more, sum-most, sum-rises, sum-room}
@@ -19,7 +19,7 @@ use Rattle.refusal.specs.declared.Verdict.the-variants.{Passed}
 use Rattle.refusal.proofs.RulesLaws.{not-due}
 use Rattle.diagram.specs.Lent.{Lent, lent, options, nodes, domain, layer, asked, width, firstEdge, edges}
 use Rattle.diagram.specs.Sound.{Within, LayerFits, Shaped}
-use Rattle.diagram.specs.Rules.{outside, badDomain, badLayer, optionRules, nodeRules}
+use Rattle.diagram.specs.Rules.{outside, breaksRule, badDomain, badLayer, optionRules, nodeRules}
 
 -- ---- tests
 
@@ -73,6 +73,14 @@ module _ (d : Lent) where
 
           fall : ltb (layer d v) (layer d (v - 1)) ≡ true → ⊥
           fall e = omega (arith, ltb-true (layer d v) (layer d (v - 1)) e, f .rising h)
+
+  -- a node after the root, by its own layer and the one before it
+  pub after-root : (j : ℕ) → badLayer d (1 + j) ≡ breaksRule (options d) (layer d j) (layer d (j + 1))
+  unfolding badLayer
+  after-root j =
+      let e : 1 + j ≡ j + 1 = omega arith in
+      let f : j + 1 - 1 ≡ j = omega arith in
+      rw (e, ne-eqb (j + 1) 0 (λ z. omega arith), f)
 
   -- numbers 1 to 4: what each test is for
   pub tests-1 : Tests (foundIf (outside 1 64 (options d)) 0) (λ p. (p ≡ 0) × (Within 1 64 (options d) → ⊥)) (Within 1 64 (options d))

@@ -10,11 +10,19 @@ use Rattle.diagram.specs.Lent.{Lent}
 use Rattle.diagram.specs.Rules.{permits}
 use Rattle.diagram.specs.declared.Reach.{Reach}
 
--- end is the first node from `from` on whose layer is above i
-pub record LayerEnd (ls : List ℕ) (from i end : ℕ) : Type 0 where
+-- the layers never fall along the list
+abbrev pub Rising : List ℕ → Type 0
+Rising ls = (u v : ℕ) → u ≤ v → v < length ls → getD ls u 0 ≤ getD ls v 0
+
+-- every node from `from` to before `end` has a layer of at most i
+pub record NoneAbove (ls : List ℕ) (from i end : ℕ) : Type 0 where
   pub from-on : from ≤ end
   pub to-last : end ≤ length ls
   pub until : (v : ℕ) → from ≤ v → v < end → getD ls v 0 ≤ i
+
+-- end is the first node from `from` on whose layer is above i
+pub record LayerEnd (ls : List ℕ) (from i end : ℕ) : Type 0 where
+  pub none-above : NoneAbove ls from i end
   pub above : end < length ls → i < getD ls end 0
 
 -- a reference that is none of the reach

@@ -13,12 +13,16 @@ use Rattle.diagram.specs.Lent.{Lent, options, nodes, domain, layer, firs
 abbrev pub outside : ℕ → ℕ → ℕ → Bool
 outside low high x = ltb x low || ltb high x
 
+-- a layer in 2 to n that does not fall below the one before it is no bad one
+abbrev pub breaksRule : ℕ → ℕ → ℕ → Bool
+breaksRule n before i = outside 2 n i || ltb i before
+
 module _ (d : Lent) where
   abbrev pub badDomain : ℕ → Bool
   badDomain i = outside 1 32 (domain d i)
 
   unfoldable pub badLayer : ℕ → Bool
-  badLayer v = cond (eqb v 0) (not (eqb (layer d v) 1)) (outside 2 (options d) (layer d v) || ltb (layer d v) (layer d (v - 1)))
+  badLayer v = cond (eqb v 0) (not (eqb (layer d v) 1)) (breaksRule (options d) (layer d (v - 1)) (layer d v))
 
   -- an edge from layer i may lead to the reference
   unfoldable pub permits : ℕ → ℕ → Bool

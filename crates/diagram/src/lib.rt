@@ -13,9 +13,9 @@ ghost use Rattle.lists.specs.First.{first};
 ghost use Rattle.refusal.specs.Rules.{chain};
 ghost use Rattle.diagram.specs.Lent.{lent, options, nodes, layer, firstEdge, edges};
 ghost use Rattle.diagram.specs.Sound.{Shaped};
-ghost use Rattle.diagram.specs.Rules.{outside, badDomain, badLayer, badTarget, optionRules, nodeRules, targetRules, checkRules};
+ghost use Rattle.diagram.specs.Rules.{outside, breaksRule, badDomain, badLayer, badTarget, optionRules, nodeRules, targetRules, checkRules};
 ghost use Rattle.diagram.specs.Numbers.{valueNumber, referenceNumber, edgeNumber, lastNumber, values};
-ghost use Rattle.diagram.specs.Reach.{LayerEnd, stray, Reaches};
+ghost use Rattle.diagram.specs.Reach.{Rising, NoneAbove, LayerEnd, stray, Reaches};
 ghost use Rattle.diagram.specs.Promise.{CheckPromise};
 
 // A sound diagram's counts: options (n), nodes (s), values (D) and edges (E).
@@ -103,20 +103,48 @@ fn check_options(domains: &[u32]) -> Verdict
 
 // ---- numbers 3 and 4
 
+// A node after the root breaks the layers' rule: its layer is `layer`, that of the node before it `before`.
+fn breaks(options: u32, before: u32, layer: u32) -> bool
+    ensures { λ r. ⌜ r ≡ breaksRule options before layer ⌝ }
+{
+    if layer < 2 {
+        return true;
+    }
+    if options < layer {
+        return true;
+    }
+    layer < before
+}
+
 fn is_bad_layer(domains: &[u32], layers: &[u32], v: usize) -> bool
-    requires { ⌜ v < length (now layers) ⌝ }
+    requires { ⌜ (length (now domains) ≤ 64) × (v < length (now layers)) ⌝ }
     ensures { λ r. ⌜ r ≡ badLayer (lent (now (domains .entry)) (now (layers .entry)) []) v ⌝ }
 {
     if v == 0 {
         return layers[v] != 1;
     }
-    if is_outside(2, domains.len(), layers[v] as usize) {
-        return true;
-    }
-    layers[v] < layers[v - 1]
+    breaks(domains.len() as u32, layers[v - 1], layers[v])
 }
 
-fn first_bad_layer(domains: &[u32], layers: &[u32]) -> Found
+// How many nodes after the root break the rule: counted without a branch on any one of them.
+fn count_bad_layers(domains: &[u32], layers: &[u32]) -> u32
+    requires { ⌜ (length (now domains) ≤ 64) × (1 ≤ length (now layers)) × (length (now layers) ≤ 4096) ⌝ }
+    ensures { λ r. ⌜ r ≡ countTo (length (now (layers .entry)) - 1) (λ (j : ℕ). badLayer (lent (now (domains .entry)) (now (layers .entry)) []) (1 + j)) ⌝ }
+{
+    let options = domains.len() as u32;
+    let mut n: u32 = 0;
+    let mut j = 0;
+    while j + 1 < layers.len() {
+        if breaks(options, layers[j], layers[j + 1]) {
+            n += 1;
+        }
+        j += 1;
+    }
+    n
+}
+
+fn search_bad_layer(domains: &[u32], layers: &[u32]) -> Found
+    requires { ⌜ length (now domains) ≤ 64 ⌝ }
     ensures { λ r. ⌜ r ≡ first (badLayer (lent (now (domains .entry)) (now (layers .entry)) [])) (length (now (layers .entry))) ⌝ }
 {
     let mut v = 0;
@@ -129,7 +157,22 @@ fn first_bad_layer(domains: &[u32], layers: &[u32]) -> Found
     Found::Nothing
 }
 
+// The first bad layer: searched for only where the root's is bad or the count is not 0.
+fn first_bad_layer(domains: &[u32], layers: &[u32]) -> Found
+    requires { ⌜ (length (now domains) ≤ 64) × (1 ≤ length (now layers)) × (length (now layers) ≤ 4096) ⌝ }
+    ensures { λ r. ⌜ r ≡ first (badLayer (lent (now (domains .entry)) (now (layers .entry)) [])) (length (now (layers .entry))) ⌝ }
+{
+    if is_bad_layer(domains, layers, 0) {
+        return Found::At(0);
+    }
+    if count_bad_layers(domains, layers) == 0 {
+        return Found::Nothing;
+    }
+    search_bad_layer(domains, layers)
+}
+
 fn check_nodes(domains: &[u32], layers: &[u32]) -> Verdict
+    requires { ⌜ length (now domains) ≤ 64 ⌝ }
     ensures { λ r. ⌜ r ≡ chain (nodeRules (lent (now (domains .entry)) (now (layers .entry)) [])) ⌝ }
 {
     if is_outside(1, Diagram::MAX_NODES as usize, layers.len()) {
@@ -140,12 +183,29 @@ fn check_nodes(domains: &[u32], layers: &[u32]) -> Verdict
 
 // ---- the layers one after the other: each has its nodes, and their edges, in one stretch
 
+// From `from` on, past nodes whose layer is at most `layer`, eight at a time.
+fn skip_ahead(layers: &[u32], from: usize, layer: u32) -> usize
+    requires { ⌜ from ≤ length (now layers) ⌝ }
+    requires { ⌜ Rising (now layers) ⌝ }
+    ensures { λ r. ⌜ NoneAbove (now (layers .entry)) from layer r ⌝ }
+{
+    let mut v = from;
+    while 8 <= layers.len() - v {
+        if layer < layers[v + 7] {
+            return v;
+        }
+        v += 8;
+    }
+    v
+}
+
 // The first node from `from` on whose layer is above `layer`.
 fn layer_end(layers: &[u32], from: usize, layer: u32) -> usize
     requires { ⌜ from ≤ length (now layers) ⌝ }
+    requires { ⌜ Rising (now layers) ⌝ }
     ensures { λ r. ⌜ LayerEnd (now (layers .entry)) from layer r ⌝ }
 {
-    let mut v = from;
+    let mut v = skip_ahead(layers, from, layer);
     while v < layers.len() {
         if layer < layers[v] {
             return v;

@@ -113,13 +113,14 @@ module _ (bad : ℕ → Bool) where
   unfolding countTo sumTo
   count-start = refl
 
-  pub count-pass : (n : ℕ) → bad n ≡ false → countTo (n + 1) bad ≡ countTo n bad
+  -- a loop that has counted c before n passes n, or counts it
+  pub count-pass : (n : ℕ) {c : ℕ} → c ≡ countTo n bad → bad n ≡ false → c ≡ countTo (n + 1) bad
   unfolding countTo
-  count-pass n e = sum-more (λ k. cond (bad k) 1 0) n ∙ rw e (omega arith)
+  count-pass n h e = h ∙ sym (sum-more (λ k. cond (bad k) 1 0) n ∙ rw e (omega arith))
 
-  pub count-found : (n : ℕ) → bad n ≡ true → countTo (n + 1) bad ≡ countTo n bad + 1
+  pub count-found : (n : ℕ) {c : ℕ} → c ≡ countTo n bad → bad n ≡ true → c + 1 ≡ countTo (n + 1) bad
   unfolding countTo
-  count-found n e = sum-more (λ k. cond (bad k) 1 0) n ∙ rw e
+  count-found n h e = ap (λ (k : ℕ). k + 1) h ∙ sym (sum-more (λ k. cond (bad k) 1 0) n ∙ rw e)
 
   pub count-most : (n : ℕ) → countTo n bad ≤ n
   unfolding countTo

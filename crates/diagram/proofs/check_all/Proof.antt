@@ -2,11 +2,11 @@
 use mathlib.Core.Path.{_≡_, sym, _∙_, ap}
 use borrow.Author.Needs.{needs}
 use Rattle.refusal.specs.Rules.{chain}
-use Rattle.refusal.proofs.RulesLaws.{refuses, passes}
+use Rattle.refusal.proofs.RulesLaws.{refuses, passes, not-due}
 use Rattle.refusal.specs.declared.Verdict.the-variants.{Passed}
 use Rattle.diagram.specs.Lent.{lent}
 use Rattle.diagram.specs.Rules.{optionRules, nodeRules, checkRules}
-use Rattle.diagram.proofs.ShapedLaws.{shaped, same-option-rules, same-node-rules}
+use Rattle.diagram.proofs.ShapedLaws.{tests-1, shaped, same-option-rules, same-node-rules}
 use Rattle.diagram.proofs.check_all.Statement.{statement}
 use Rattle.diagram.proofs.check_all.Tie as tie
 
@@ -25,6 +25,12 @@ unfolding checkRules
 returns-2 c =
     let n = c .before .before in
     passes _ _ (options-said (n .before .before .before)) (n .before .enum-told2 .given .1) (refuses _ _ (nodes-said n) (c .enum-told3 .given .1))
+
+check-nodes-requires : tie.Need-check-nodes-requires
+unfolding optionRules
+check-nodes-requires c κs =
+    let s = c .before .before .before .before .before .before .args in
+    tests-1 (lent (s .domains .now) (s .layers .now) (s .targets .now)) .none .0 (not-due 1 _ _ (sym (options-said (c .before .before)) ∙ c .enum-told2 .given .1) .0) .1
 
 check-targets-requires : tie.Need-check-targets-requires
 check-targets-requires c κs =
@@ -45,7 +51,7 @@ check-all-spec =
     (λ c. search needs)
     returns
     (λ c. search needs)
-    (λ c κs. search needs)
+    check-nodes-requires
     (λ c. search needs)
     returns-2
     (λ c. search needs)

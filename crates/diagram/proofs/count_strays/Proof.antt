@@ -1,7 +1,7 @@
 -- `diagram::count_strays` meets its contract: n is the count below j. Assumes nothing.
-use mathlib.Core.Path.{_≡_, sym, _∙_, ap}
+use mathlib.Core.Path.{_≡_, sym, _∙_}
 use mathlib.Core.Logic.{⊎-elim}
-use Prim.Native.Nat.{ℕ, _+_, _≤_, _-_}
+use Prim.Native.Nat.{ℕ, _≤_, _-_}
 use native.Mathlib.Omega.{arith}
 use lib.ListN.{length, getD}
 use borrow.Author.Needs.{needs}
@@ -27,9 +27,7 @@ loop-again c =
     let l = c .before .before .before .before .loop in
     let e = c .before .is-stray .ensures in (
       search needs,
-      ⊎-elim (λ w. w .1 ∙ ap (λ (k : ℕ). k + 1) (l .inv .1) ∙ sym (count-found _ (l .j) (sym e ∙ w .0 .taken)))
-          (λ w. w .1 ∙ l .inv .1 ∙ sym (count-pass _ (l .j) (sym e ∙ w .0 .left)))
-          (c .if1 .came),
+      ⊎-elim (λ w. w .1 ∙ count-found _ (l .j) (l .inv .1) (sym e ∙ w .0 .taken)) (λ w. w .1 ∙ count-pass _ (l .j) (l .inv .1) (sym e ∙ w .0 .left)) (c .if1 .came),
     )
 
 pub count-strays-spec : {M : Type 1} → statement M

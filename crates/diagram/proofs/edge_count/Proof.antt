@@ -6,7 +6,7 @@ use native.Mathlib.Omega.{arith}
 use lib.ListN.{length}
 use borrow.Author.Needs.{needs}
 use Rattle.diagram.specs.Lent.{Lent, lent, firstEdge}
-use Rattle.diagram.proofs.ShapedLaws.{edges-none, edges-most}
+use Rattle.diagram.proofs.ShapedLaws.{layers-rise, edges-none, edges-most}
 use Rattle.diagram.proofs.ReachLaws.{moves-on}
 use Rattle.diagram.proofs.edge_count.Statement.{statement}
 use Rattle.diagram.proofs.edge_count.Tie as tie
@@ -39,9 +39,9 @@ edge-count-spec =
     (λ c. (omega arith, sym (edges-none _)))
     (λ c. search needs)
     (λ c. search needs)
-    (λ c κs. search needs)
+    (λ c κs. let t = c .before in (omega arith, layers-rise (d t) (start t .pre)))
     (λ c κs. let t = c .before .before in (start t .pre, (t .loop-test .taken, c .layer-end .ensures)))
-    (λ c. omega (arith, counted c, edges-most (d (test c)) (start (test c) .pre) (c .before .layer-end .result) (c .before .layer-end .ensures .to-last)))
+    (λ c. omega (arith, counted c, edges-most (d (test c)) (start (test c) .pre) (c .before .layer-end .result) (c .before .layer-end .ensures .none-above .to-last)))
     (λ c. omega (arith, moves-on (d (test c)) (start (test c) .pre) (test c .before .loop .v) (c .before .layer-end .result) (test c .loop-test .taken) (c .before .layer-end .ensures)))
-    (λ c. (c .before .layer-end .ensures .to-last, counted c))
+    (λ c. (c .before .layer-end .ensures .none-above .to-last, counted c))
     (λ c. let l = c .before .loop in let q : l .v ≡ length (c .before .before .before .before .args .layers .now) = omega arith in rw (← q) (l .inv .1)))

@@ -1,34 +1,33 @@
--- `diagram::first_bad_layer` meets its contract: none below v is bad. Assumes nothing.
+-- `diagram::first_bad_layer` meets its contract: where the root is as it should be and the count is 0, a search finds
+-- nothing. Assumes nothing.
 use mathlib.Core.Path.{_≡_, sym, _∙_}
 use mathlib.Core.List.{[]}
-use Prim.Native.Nat.{_≤_, _-_}
+use Prim.Native.Nat.{ℕ, _+_, _-_}
 use native.Mathlib.Omega.{arith}
 use lib.ListN.{length}
 use borrow.Author.Needs.{needs}
-use Rattle.lists.specs.First.{first}
-use Rattle.lists.specs.declared.Found.the-variants.{Nothing}
-use Rattle.lists.proofs.FirstLaws.{start, pass, stop, end}
+use Rattle.lists.proofs.FirstLaws.{start, pass, stop, on-none, count-none}
 use Rattle.diagram.specs.Lent.{lent}
 use Rattle.diagram.specs.Rules.{badLayer}
 use Rattle.diagram.proofs.first_bad_layer.Statement.{statement}
 use Rattle.diagram.proofs.first_bad_layer.Tie as tie
 
-abbrev Inv-loop : tie.InvT-loop
-Inv-loop domains layers v₀ v = (v ≤ length layers) × (first (badLayer (lent domains layers [])) v ≡ Nothing)
-
-abbrev μ-loop : tie.MeasureT-loop
-μ-loop domains layers v₀ v = length layers - v
+returns-2 : tie.Need-returns-2
+returns-2 c =
+    let e = c .before .before in
+    let s = e .before .before .before .before in
+    let ls = s .args .layers .now in
+    let bad = badLayer (lent (s .args .domains .now) ls []) in
+    let q : 1 + (length ls - 1) ≡ length ls = omega (arith, s .pre) in
+    sym (rw q at (on-none bad 1 (pass bad 0 (start bad) (sym (e .before .is-bad-layer .ensures) ∙ e .if1 .left)) (length ls - 1) (count-none (λ (j : ℕ). bad (1 + j)) (length ls - 1) (sym (c .before .count-bad-layers .ensures) ∙ c .if2 .taken))))
 
 pub first-bad-layer-spec : {M : Type 1} → statement M
 first-bad-layer-spec =
     tie.close
     (tie.spec
-    Inv-loop
-    μ-loop
-    (λ c. (omega arith, start _))
     (λ c κs. search needs)
-    (λ c. let l = c .before .before in stop _ _ _ (l .before .loop .inv .1) (sym (c .before .is-bad-layer .ensures) ∙ c .if1 .taken) (l .loop-test .taken))
-    (λ c. search needs)
-    (λ c. search needs)
-    (λ c. (search needs, pass _ _ (c .before .before .before .loop .inv .1) (sym (c .before .is-bad-layer .ensures) ∙ c .if1 .left)))
-    (λ c. let l = c .before .loop in end _ _ _ (l .inv .1) (l .inv .0) (c .loop-test .left)))
+    (λ c. stop _ 0 _ (start _) (sym (c .before .is-bad-layer .ensures) ∙ c .if1 .taken) (search needs))
+    (λ c κs. search needs)
+    returns-2
+    (λ c κs. search needs)
+    (λ c. c .search-bad-layer .ensures))

@@ -12,7 +12,7 @@ use Rattle.diagram.specs.Lent.{Lent, lent, firstEdge, edges}
 use Rattle.diagram.specs.Sound.{Shaped}
 use Rattle.diagram.specs.Rules.{badTarget}
 use Rattle.diagram.specs.Reach.{LayerEnd}
-use Rattle.diagram.proofs.ShapedLaws.{reshaped, same-edges, edges-none, edges-rise, edges-most}
+use Rattle.diagram.proofs.ShapedLaws.{layers-rise, reshaped, same-edges, edges-none, edges-rise, edges-most}
 use Rattle.diagram.proofs.ReachLaws.{moves-on, same-reach, part-length, in-part}
 use Rattle.diagram.proofs.first_bad_target.Statement.{statement}
 use Rattle.diagram.proofs.first_bad_target.Tie as tie
@@ -46,10 +46,10 @@ is-e c =
     ∙ same-edges (s .domains .now) (s .layers .now) [] (s .targets .now) (c .before .layer-end .result)
 
 room : (c : tie.After-layer-edges Inv-loop μ-loop) → test c .before .loop .a + c .layer-edges .result ≤ length (begin (test c) .args .targets .now)
-room c = omega (arith, is-e c, edges-rise (d (test c)) (c .before .layer-end .result) (length (begin (test c) .args .layers .now)) (c .before .layer-end .ensures .to-last), begin (test c) .pre .1)
+room c = omega (arith, is-e c, edges-rise (d (test c)) (c .before .layer-end .result) (length (begin (test c) .args .layers .now)) (c .before .layer-end .ensures .none-above .to-last), begin (test c) .pre .1)
 
 small : (c : tie.After-layer-edges Inv-loop μ-loop) → test c .before .loop .a + c .layer-edges .result ≤ 131072
-small c = omega (arith, is-e c, edges-most (d (test c)) (shape (test c)) (c .before .layer-end .result) (c .before .layer-end .ensures .to-last))
+small c = omega (arith, is-e c, edges-most (d (test c)) (shape (test c)) (c .before .layer-end .result) (c .before .layer-end .ensures .none-above .to-last))
 
 -- what the layer's search finds
 found : (c : tie.After-first-stray Inv-loop μ-loop) → let e = c .before .before .before in let l = test e .before .loop in
@@ -71,7 +71,7 @@ first-bad-target-spec =
     (λ c. (omega arith, sym (edges-none _), start _))
     (λ c. search needs)
     (λ c. search needs)
-    (λ c κs. search needs)
+    (λ c κs. let t = c .before in (omega arith, layers-rise (d t) (shape t)))
     (λ c κs. let t = c .before .before in (reshaped _ _ _ _ (shape t), (t .loop-test .taken, c .layer-end .ensures)))
     (λ c. omega (arith, small c))
     (λ c κs. (reshaped _ _ _ _ (shape (test c)), (test c .loop-test .taken, c .before .layer-end .ensures)))
@@ -100,7 +100,7 @@ first-bad-target-spec =
     let e = f .before .before .before in
     let l = test e .before .loop in
     let q : l .a + (l .a + e .layer-edges .result - l .a) ≡ l .a + e .layer-edges .result = omega arith in
-    (e .before .layer-end .ensures .to-last, is-e e, rw q at (on-none _ (l .a) (l .inv .2) _ (sym (found f) ∙ c .enum-told .given .1))))
+    (e .before .layer-end .ensures .none-above .to-last, is-e e, rw q at (on-none _ (l .a) (l .inv .2) _ (sym (found f) ∙ c .enum-told .given .1))))
     (λ c.
     let l = c .before .loop in
     let s = c .before .before .before .before .before in

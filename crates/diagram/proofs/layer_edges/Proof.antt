@@ -20,12 +20,12 @@ layer-edges-spec =
     (λ c. search needs)
     (λ c. search needs)
     (λ c. omega (arith, c .shared-slice-known .given (c .before .args .v)))
-    (λ c. omega (arith, c .before .pre .1 .1 .from-on))
+    (λ c. omega (arith, c .before .pre .1 .1 .none-above .from-on))
     (λ c. let s = c .before in omega (arith, layer-within (d s) (s .pre .0) (s .args .v) (s .pre .1 .0)))
     (λ c. let s = c .before in omega (arith, layer-within (d s) (s .pre .0) (s .args .v) (s .pre .1 .0)))
     (λ c. let s = c .before .before in omega (arith, layer-within (d s) (s .pre .0) (s .args .v) (s .pre .1 .0)))
     (λ c. let s = c .before .before in omega (arith, c .shared-slice-known2 .given (getD (s .args .layers .now) (s .args .v) 0 - 1)))
     (λ c.
     let s = c .before .before in
-    omega (arith, stretch (d s) (s .pre .0) (s .args .v) (s .args .next) (s .pre .1 .0) (s .pre .1 .1), edges-most (d s) (s .pre .0) (s .args .next) (s .pre .1 .1 .to-last)))
+    omega (arith, stretch (d s) (s .pre .0) (s .args .v) (s .args .next) (s .pre .1 .0) (s .pre .1 .1), edges-most (d s) (s .pre .0) (s .args .next) (s .pre .1 .1 .none-above .to-last)))
     (λ c. let s = c .before .before in stretch (d s) (s .pre .0) (s .args .v) (s .args .next) (s .pre .1 .0) (s .pre .1 .1)))

@@ -6,7 +6,7 @@ use native.Mathlib.Omega.{arith}
 use lib.ListN.{length, getD}
 use borrow.Author.Needs.{needs}
 use Rattle.diagram.specs.Lent.{Lent, lent}
-use Rattle.diagram.proofs.ShapedLaws.{layer-within}
+use Rattle.diagram.proofs.ShapedLaws.{layer-within, layers-rise}
 use Rattle.diagram.proofs.ReachLaws.{reach}
 use Rattle.diagram.proofs.reach_of.Statement.{statement}
 use Rattle.diagram.proofs.reach_of.Tie as tie
@@ -24,10 +24,10 @@ reach-of-spec =
     (λ c. search needs)
     (λ c. search needs)
     (λ c. let s = c .before .before .before in omega (arith, layer-within (d s) (s .pre .0) (s .args .v) (s .pre .1 .0), s .pre .0 .options-fit))
-    (λ c κs. let s = c .before .before .before in s .pre .1 .1 .to-last)
+    (λ c κs. let s = c .before .before .before in (s .pre .1 .1 .none-above .to-last, layers-rise (d s) (s .pre .0)))
     (λ c κs. search needs)
-    (λ c. omega (arith, start c .pre .1 .1 .to-last, start c .pre .0 .nodes-fit))
-    (λ c. omega (arith, start c .pre .1 .1 .to-last, start c .pre .0 .nodes-fit))
-    (λ c. omega (arith, c .before .layer-end .ensures .to-last, start c .pre .0 .nodes-fit))
-    (λ c. omega (arith, c .before .layer-end .ensures .to-last, start c .pre .0 .nodes-fit))
+    (λ c. omega (arith, start c .pre .1 .1 .none-above .to-last, start c .pre .0 .nodes-fit))
+    (λ c. omega (arith, start c .pre .1 .1 .none-above .to-last, start c .pre .0 .nodes-fit))
+    (λ c. omega (arith, c .before .layer-end .ensures .none-above .to-last, start c .pre .0 .nodes-fit))
+    (λ c. omega (arith, c .before .layer-end .ensures .none-above .to-last, start c .pre .0 .nodes-fit))
     (λ c. let s = start c in reach (d s) (s .pre .0) (s .args .v) (s .args .next) (s .pre .1 .0) (s .pre .1 .1) (c .before .layer-end .result) (c .before .layer-end .ensures) _ (c .ends-of .ensures) refl refl))
