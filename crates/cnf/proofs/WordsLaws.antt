@@ -13,7 +13,7 @@ use Rattle.lists.specs.Signed.{isZero}
 use Rattle.lists.specs.Upto.{upTo, sumTo, countTo}
 use Rattle.lists.proofs.UptoLaws.{list-length, of-list}
 use Rattle.cnf.specs.Clause.{Clause, is, isnt, words}
-use Rattle.cnf.specs.Words.{before, clausesOf, zeros, closed, NoZero, NoZeros}
+use Rattle.cnf.specs.Words.{startWith, clausesOf, zeros, closed, NoZero, NoZeros}
 
 -- ---- words, clause by clause
 
@@ -121,17 +121,17 @@ pub of-zero : (ws : List ℤ) → clausesOf (pos 0 ∷ ws) ≡ [] ∷ clausesOf 
 unfolding clausesOf isZero
 of-zero ws = refl
 
-pub of-literal : (l : ℤ) (ws : List ℤ) → isZero l ≡ false → clausesOf (l ∷ ws) ≡ before l (clausesOf ws)
+pub of-literal : (l : ℤ) (ws : List ℤ) → isZero l ≡ false → clausesOf (l ∷ ws) ≡ startWith l (clausesOf ws)
 unfolding clausesOf
 of-literal l ws e = rw e
 
 -- a clause's literals and its 0, and then more
 pub of-clause : (c : Clause) (ws : List ℤ) → NoZero c → clausesOf (c ++ (pos 0 ∷ ws)) ≡ c ∷ clausesOf ws
-unfolding before
+unfolding startWith
 of-clause [] ws g = of-zero ws
 of-clause (l ∷ c) ws g =
     of-literal l (c ++ (pos 0 ∷ ws)) (g l (List·Memᴰ·head refl))
-    ∙ ap (before l) (of-clause c ws (λ m t. g m (List·Memᴰ·tail t)))
+    ∙ ap (startWith l) (of-clause c ws (λ m t. g m (List·Memᴰ·tail t)))
 
 -- the clauses of the words of clauses are those clauses
 pub clauses-words : (cs : List Clause) → NoZeros cs → clausesOf (words cs) ≡ cs
@@ -184,10 +184,10 @@ zeros-words (c ∷ cs) g =
     zeros-append c (pos 0 ∷ words cs)
     ∙ omega (arith, zeros-of-clause c (g c (List·Memᴰ·head refl)), zeros-words cs (λ d m. g d (List·Memᴰ·tail m)))
 
-before-length : (l : ℤ) (cs : List Clause) → length (before l cs) ≡ length cs
-unfolding before
-before-length l [] = refl
-before-length l (c ∷ cs) = refl
+start-length : (l : ℤ) (cs : List Clause) → length (startWith l cs) ≡ length cs
+unfolding startWith
+start-length l [] = refl
+start-length l (c ∷ cs) = refl
 
 -- a word list has a clause for each 0
 pub clauses-length : (ws : List ℤ) → length (clausesOf ws) ≡ zeros ws
@@ -195,9 +195,9 @@ unfolding clausesOf zeros
 clauses-length [] = refl
 clauses-length (w ∷ ws) = go (isZero w) (clauses-length ws)
   where
-    go : (b : Bool) → length (clausesOf ws) ≡ zeros ws → length (cond b ([] ∷ clausesOf ws) (before w (clausesOf ws))) ≡ cond b (zeros ws + 1) (zeros ws)
+    go : (b : Bool) → length (clausesOf ws) ≡ zeros ws → length (cond b ([] ∷ clausesOf ws) (startWith w (clausesOf ws))) ≡ cond b (zeros ws + 1) (zeros ws)
     go true e = omega arith
-    go false e = before-length w (clausesOf ws) ∙ e
+    go false e = start-length w (clausesOf ws) ∙ e
 
 -- ---- closed
 
@@ -242,10 +242,10 @@ zero-only (pos (suc n)) e = absurd (false≢true e)
 zero-only (negsuc n) e = absurd (false≢true e)
 
 -- a literal before clauses, of which there are some, goes before their words
-words-before : (l : ℤ) (cs : List Clause) (v : ℤ) (ws : List ℤ) → words cs ≡ v ∷ ws → words (before l cs) ≡ l ∷ words cs
-unfolding words before
-words-before l [] v ws e = absurd (omega (arith, ap length e))
-words-before l (c ∷ cs) v ws e = refl
+words-start : (l : ℤ) (cs : List Clause) (v : ℤ) (ws : List ℤ) → words cs ≡ v ∷ ws → words (startWith l cs) ≡ l ∷ words cs
+unfolding words startWith
+words-start l [] v ws e = absurd (omega (arith, ap length e))
+words-start l (c ∷ cs) v ws e = refl
 
 word-first : (w v : ℤ) (ws : List ℤ) → words (clausesOf (v ∷ ws)) ≡ v ∷ ws → words (clausesOf (w ∷ (v ∷ ws))) ≡ w ∷ (v ∷ ws)
 word-first w v ws r = go (isZero w) refl
@@ -258,7 +258,7 @@ word-first w v ws r = go (isZero w) refl
         ∙ ap (λ (l : List ℤ). pos 0 ∷ l) r
         ∙ ap (λ (x : ℤ). x ∷ (v ∷ ws)) (sym z)
     go false e =
-        ap words (of-literal w (v ∷ ws) e) ∙ words-before w (clausesOf (v ∷ ws)) v ws r
+        ap words (of-literal w (v ∷ ws) e) ∙ words-start w (clausesOf (v ∷ ws)) v ws r
         ∙ ap (λ (l : List ℤ). w ∷ l) r
 
 -- the words of the clauses of a closed word list are that list
@@ -270,11 +270,11 @@ words-clauses (w ∷ v ∷ ws) h = word-first w v ws (words-clauses (v ∷ ws) h
 
 -- ---- the literals of the clauses of a word list
 
-before-all : (P : ℤ → Type 0) (l : ℤ) (cs : List Clause) → P l → ((c : Clause) → List·Memᴰ c cs → (m : ℤ) → List·Memᴰ m c → P m) → (c : Clause) → List·Memᴰ c (before l cs) → (m : ℤ) → List·Memᴰ m c → P m
-unfolding before
-before-all P l [] p g c i = absurd (List·Memᴰ·not-nil i)
-before-all P l (d ∷ cs) p g c (List·Memᴰ·tail i) = g c (List·Memᴰ·tail i)
-before-all P l (d ∷ cs) p g c (List·Memᴰ·head e) = λ m j. first m (subst (List·Memᴰ m) e j)
+start-all : (P : ℤ → Type 0) (l : ℤ) (cs : List Clause) → P l → ((c : Clause) → List·Memᴰ c cs → (m : ℤ) → List·Memᴰ m c → P m) → (c : Clause) → List·Memᴰ c (startWith l cs) → (m : ℤ) → List·Memᴰ m c → P m
+unfolding startWith
+start-all P l [] p g c i = absurd (List·Memᴰ·not-nil i)
+start-all P l (d ∷ cs) p g c (List·Memᴰ·tail i) = g c (List·Memᴰ·tail i)
+start-all P l (d ∷ cs) p g c (List·Memᴰ·head e) = λ m j. first m (subst (List·Memᴰ m) e j)
   where
     first : (m : ℤ) → List·Memᴰ m (l ∷ d) → P m
     first m (List·Memᴰ·head q) = subst P (sym q) p
@@ -290,9 +290,9 @@ literals-all P (w ∷ ws) g c i = go (isZero w) refl (literals-all P ws (λ v j 
     after r (List·Memᴰ·head e) m j = absurd (List·Memᴰ·not-nil (subst (List·Memᴰ m) e j))
     after r (List·Memᴰ·tail i) m j = r c i m j
 
-    go : (b : Bool) → isZero w ≡ b → ((c : Clause) → List·Memᴰ c (clausesOf ws) → (m : ℤ) → List·Memᴰ m c → P m) → List·Memᴰ c (cond b ([] ∷ clausesOf ws) (before w (clausesOf ws))) → (m : ℤ) → List·Memᴰ m c → P m
+    go : (b : Bool) → isZero w ≡ b → ((c : Clause) → List·Memᴰ c (clausesOf ws) → (m : ℤ) → List·Memᴰ m c → P m) → List·Memᴰ c (cond b ([] ∷ clausesOf ws) (startWith w (clausesOf ws))) → (m : ℤ) → List·Memᴰ m c → P m
     go true e r i = after r i
-    go false e r i = before-all P w (clausesOf ws) (g w (List·Memᴰ·head refl) e) r c i
+    go false e r i = start-all P w (clausesOf ws) (g w (List·Memᴰ·head refl) e) r c i
 
 -- none is 0, and each is a word
 pub clauses-no-zero : (ws : List ℤ) → NoZeros (clausesOf ws)

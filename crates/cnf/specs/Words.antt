@@ -9,14 +9,14 @@ use Rattle.cnf.specs.Clause.{Clause}
 
 -- a literal before the clauses that are closed after it: it is the first one's. Where none is, its own clause is not
 -- closed, and is no clause
-unfoldable pub before : ℤ → List Clause → List Clause
-before l [] = []
-before l (c ∷ cs) = (l ∷ c) ∷ cs
+unfoldable pub startWith : ℤ → List Clause → List Clause
+startWith l [] = []
+startWith l (c ∷ cs) = (l ∷ c) ∷ cs
 
 -- the clauses of a word list
 unfoldable pub clausesOf : List ℤ → List Clause
 clausesOf [] = []
-clausesOf (w ∷ ws) = cond (isZero w) ([] ∷ clausesOf ws) (before w (clausesOf ws))
+clausesOf (w ∷ ws) = cond (isZero w) ([] ∷ clausesOf ws) (startWith w (clausesOf ws))
 
 -- how many words are 0: the clause count of a word list
 unfoldable pub zeros : List ℤ → ℕ

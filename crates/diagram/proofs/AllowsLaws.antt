@@ -115,15 +115,15 @@ module _ (d : Lent) where
         pub end-agrees : (i r : ℕ) → Later i r → ((o : ℕ) → i ≤ o → o < options d → x o ≡ y o) → end d x r ≡ end d y r
         end-agrees i r l e = walk-agrees (options d) i r l e
 
-      -- ---- the walk ends at T exactly when the reference allows the build, as 01 says it
+      -- ---- the walk ends at T exactly when the reference allows the build
 
       allows-from : (i r : ℕ) → Later i r → end d x r ≡ 1 → AllowsFrom d x r
       allows-from = every-reference (λ r. end d x r ≡ 1 → AllowsFrom d x r) (λ e. absurd (omega (arith, walk-false x (options d)))) (λ e. at-true)
-          (λ v h f e. along h (f (x (asked d v)) (b (asked d v) (asked-option v h)) (sym (end-step v h) ∙ e)))
+          (λ v h f e. let j = b (asked d v) (asked-option v h) in along h j (f (x (asked d v)) j (sym (end-step v h) ∙ e)))
 
       from-allows : {r : ℕ} → AllowsFrom d x r → end d x r ≡ 1
       from-allows at-true = walk-true x (options d)
-      from-allows (along {v = v} h a) = end-step v h ∙ from-allows a
+      from-allows (along {v = v} h j a) = end-step v h ∙ from-allows a
 
       pub allows-exactly : Allows d x ↔ AllowsFrom d x 2
       allows-exactly = (allows-from 0 2 root-later, from-allows)

@@ -4,17 +4,16 @@ use mathlib.Core.Path.{_≡_, refl, sym, _∙_, ap}
 use mathlib.Core.Logic.{_↔_}
 use mathlib.Core.List.{List, [], _∷_}
 use Prim.Native.Nat.{ℕ}
-use Rattle.refusal.specs.Rules.{refusal, chain}
+use Rattle.refusal.specs.Rules.{chain}
 use Rattle.refusal.specs.Table.{ExactlyWhen}
 use Rattle.refusal.specs.declared.Refusal.{Refusal}
 use Rattle.refusal.specs.declared.Verdict.the-variants.{Passed, Refused as Refusing}
 use Rattle.refusal.proofs.SaidLaws.{said-refused, said-passed}
 use Rattle.refusal.proofs.TableLaws.{exactly-when}
-use Rattle.diagram.specs.Lent.{Lent, options, nodes, edges}
-use Rattle.diagram.specs.Numbers.{values}
+use Rattle.diagram.specs.Lent.{Lent}
 use Rattle.diagram.specs.Sound.{Sound, checkTable}
 use Rattle.diagram.specs.Rules.{checkRules}
-use Rattle.diagram.specs.Promise.{checkSaid, CheckPromise, check-said-once}
+use Rattle.diagram.specs.Promise.{checkSaid, countsOf, CheckPromise, check-said-once}
 use Rattle.diagram.specs.declared.Diagram.{Diagram}
 use Rattle.diagram.specs.declared.Checked.the-variants.{Sound as IsSound, Refused}
 use Rattle.diagram.specs.declared.CheckAnswer.{CheckAnswer}
@@ -30,11 +29,19 @@ module _ (d : Lent) (answer : CheckAnswer) (promise : CheckPromise d answer) whe
   pub answer-sound : {c : Diagram} → answer .outcome ≡ IsSound c → chain (checkRules d) ≡ Passed
   answer-sound e = said-passed (chain (checkRules d)) _ _ _ _ (sym (ap checkSaid e) ∙ promise .says)
 
-  pub check-exactly-when : ExactlyWhen (checkTable d) (λ n p. answer .outcome ≡ Refused (refusal n p)) (Sound d)
-  check-exactly-when = exactly-when (checkRules d) (checkTable d) (check-faithful d) tt (λ n p. answer-refused (refusal n p)) (sound-passed d, passed-sound d)
+  -- each number from 1 to 6 is given exactly when its row is due and none before it is
+  pub check-exactly-when : ExactlyWhen (checkTable d) (λ r. answer .outcome ≡ Refused r)
+  check-exactly-when = exactly-when (checkRules d) (checkTable d) (check-faithful d) tt answer-refused
 
-  pub sound-exactly : (answer .outcome ≡ IsSound (record { options = options d; nodes = nodes d; values = values d; edges = edges d })) ↔ Sound d
-  sound-exactly = (
-    (λ e. passed-sound d (answer-sound e)),
-    (λ s. check-said-once (answer .outcome) _ (promise .says ∙ rw (sound-passed d s))),
+  sound-said : Sound d → answer .outcome ≡ IsSound (countsOf d)
+  sound-said s = check-said-once (answer .outcome) _ (promise .says ∙ rw (sound-passed d s))
+
+  sound-counts : {c : Diagram} → Sound d → answer .outcome ≡ IsSound c → c ≡ countsOf d
+  sound-counts s e = let q = sym e ∙ sound-said s in cc
+
+  -- "sound" is answered with counts exactly when the diagram is sound and they are its own
+  pub sound-exactly : (c : Diagram) → (answer .outcome ≡ IsSound c) ↔ (Sound d × (c ≡ countsOf d))
+  sound-exactly c = (
+    (λ e. let s = passed-sound d (answer-sound e) in (s, sound-counts s e)),
+    (λ w. sound-said (w .0) ∙ ap IsSound (sym (w .1))),
   )

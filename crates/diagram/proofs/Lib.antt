@@ -1,5 +1,6 @@
 pub mod ShapedLaws
-pub mod ReachLaws
+pub mod RangeLaws
 pub mod SoundLaws
 pub mod AllowsLaws
 pub mod CheckLaws
+pub mod Witness

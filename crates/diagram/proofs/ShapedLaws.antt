@@ -18,16 +18,17 @@ use Rattle.refusal.specs.Rules.{rule, chain}
 use Rattle.refusal.specs.declared.Verdict.the-variants.{Passed}
 use Rattle.refusal.proofs.RulesLaws.{not-due}
 use Rattle.diagram.specs.Lent.{Lent, lent, options, nodes, domain, layer, asked, width, firstEdge, edges}
-use Rattle.diagram.specs.Sound.{Within, LayerFits, Shaped}
+use Rattle.diagram.specs.Sound.{Within, OptionsFit, DomainFits, NodesFit, LayerFits, Shaped}
+use Rattle.diagram.specs.Range.{Rising}
 use Rattle.diagram.specs.Rules.{outside, breaksRule, badDomain, badLayer, optionRules, nodeRules}
 
 -- ---- tests
 
-pub or-false : (a b : Bool) → (a || b) ≡ false → (a ≡ false) × (b ≡ false)
+or-false : (a b : Bool) → (a || b) ≡ false → (a ≡ false) × (b ≡ false)
 or-false false b e = (refl, e)
 or-false true b e = (cc, cc)
 
-pub or-true : (a b : Bool) → (a || b) ≡ true → (a ≡ true) ⊎ (b ≡ true)
+or-true : (a b : Bool) → (a || b) ≡ true → (a ≡ true) ⊎ (b ≡ true)
 or-true false b e = inr e
 or-true true b e = inl refl
 
@@ -83,13 +84,13 @@ module _ (d : Lent) where
       rw (e, ne-eqb (j + 1) 0 (λ z. omega arith), f)
 
   -- numbers 1 to 4: what each test is for
-  pub tests-1 : Tests (foundIf (outside 1 64 (options d)) 0) (λ p. (p ≡ 0) × (Within 1 64 (options d) → ⊥)) (Within 1 64 (options d))
+  pub tests-1 : Tests (foundIf (outside 1 64 (options d)) 0) (λ p. (p ≡ 0) × (OptionsFit d → ⊥)) (OptionsFit d)
   tests-1 = tests-one (outside 1 64 (options d)) _ (inside 1 64 (options d)) (not-inside 1 64 (options d))
 
-  pub tests-2 : Tests (first (badDomain d) (options d)) (FirstFailing (options d) (λ i. Within 1 32 (domain d i))) ((i : ℕ) → i < options d → Within 1 32 (domain d i))
-  tests-2 = tests-each (badDomain d) (λ i. Within 1 32 (domain d i)) (options d) (λ i _. inside 1 32 (domain d i)) (λ i _. not-inside 1 32 (domain d i))
+  pub tests-2 : Tests (first (badDomain d) (options d)) (FirstFailing (options d) (DomainFits d)) ((i : ℕ) → i < options d → DomainFits d i)
+  tests-2 = tests-each (badDomain d) (DomainFits d) (options d) (λ i _. inside 1 32 (domain d i)) (λ i _. not-inside 1 32 (domain d i))
 
-  pub tests-3 : Tests (foundIf (outside 1 4096 (nodes d)) 0) (λ p. (p ≡ 0) × (Within 1 4096 (nodes d) → ⊥)) (Within 1 4096 (nodes d))
+  pub tests-3 : Tests (foundIf (outside 1 4096 (nodes d)) 0) (λ p. (p ≡ 0) × (NodesFit d → ⊥)) (NodesFit d)
   tests-3 = tests-one (outside 1 4096 (nodes d)) _ (inside 1 4096 (nodes d)) (not-inside 1 4096 (nodes d))
 
   pub tests-4 : Tests (first (badLayer d) (nodes d)) (FirstFailing (nodes d) (LayerFits d)) ((v : ℕ) → v < nodes d → LayerFits d v)
@@ -145,7 +146,7 @@ module _ (d : Lent) where
     width-within v h = s .domains-fit (asked d v) (asked-in v h)
 
     -- layers never fall
-    pub layers-rise : (u v : ℕ) → u ≤ v → v < nodes d → layer d u ≤ layer d v
+    pub layers-rise : Rising (d .layers)
     layers-rise u zero h l = let e : u ≡ 0 = omega arith in rw e (le-refl _)
     layers-rise u (suc v) h l = go (eq-or-lt-of-le h) (λ k. layers-rise u v k (omega arith))
       where

@@ -18,10 +18,10 @@ use Rattle.refusal.specs.declared.Verdict.the-variants.{Passed}
 use Rattle.refusal.proofs.RulesLaws.{passed, not-due}
 use Rattle.refusal.proofs.TableLaws.{Faithful}
 use Rattle.diagram.specs.Lent.{Lent, options, nodes, domain, layer, width, firstEdge, edges, leads, target}
-use Rattle.diagram.specs.Sound.{Within, LayerFits, Permitted, to-false, to-true, to-node, TargetFits, Shaped, Sound, checkTable}
+use Rattle.diagram.specs.Sound.{Permitted, to-false, to-true, to-node, TargetFits, Counted, Shaped, Sound, checkTable}
 use Rattle.diagram.specs.Rules.{permits, badTarget, optionRules, nodeRules, targetRules, checkRules}
 use Rattle.diagram.proofs.ShapedLaws.{tests-1, tests-2, tests-3, tests-4, shaped, edges-more}
-use Rattle.diagram.proofs.ReachLaws.{owner-is}
+use Rattle.diagram.proofs.RangeLaws.{owner-is}
 
 module _ (d : Lent) where
   -- ---- where an edge may lead
@@ -60,7 +60,7 @@ module _ (d : Lent) where
       true≢false (sym t ∙ not-true (permits d (layer d (w .0)) (target d (w .0) (w .1))) (sym (owned (w .0) (w .1) p (w .2) (w .3) (w .4)) ∙ e))
 
   -- numbers 5 and 6: what each test is for
-  tests-5 : Tests (foundIf (not (eqb (length (d .targets)) (edges d))) 0) (λ p. (p ≡ 0) × (length (d .targets) ≡ edges d → ⊥)) (length (d .targets) ≡ edges d)
+  tests-5 : Tests (foundIf (not (eqb (length (d .targets)) (edges d))) 0) (λ p. (p ≡ 0) × (Counted d → ⊥)) (Counted d)
   tests-5 =
       tests-one (not (eqb (length (d .targets)) (edges d))) _
       (λ e. eqb-true (length (d .targets)) (edges d) (not-false (eqb (length (d .targets)) (edges d)) e))

@@ -14,9 +14,9 @@ pub record Lent : Type 0 where
 abbrev pub lent : List ℕ → List ℕ → List ℕ → Lent
 lent ds ls ts = record { domains = ds; layers = ls; targets = ts }
 
--- the build that a list holds: a value for each option
-abbrev pub held : List ℕ → ℕ → ℕ
-held build i = getD build i 0
+-- the value that a build, as a list, chooses for option i
+abbrev pub chosen : List ℕ → ℕ → ℕ
+chosen build i = getD build i 0
 
 module _ (d : Lent) where
   abbrev pub options : ℕ
@@ -77,8 +77,8 @@ module _ (d : Lent) where
   abbrev pub Build : (ℕ → ℕ) → Type 0
   Build x = (i : ℕ) → i < options → x i < domain i
 
-  -- the same in 01's words: a node allows values for the rest of the options when the edge of its option's value leads
-  -- to T, or to a node that allows them (T itself has no rest)
+  -- the same, said by cases: T allows whatever is left; a node allows values for the rest of the options when the edge
+  -- of its option's value leads to T, or to a node that allows them
   pub data AllowsFrom (x : ℕ → ℕ) : ℕ → Type 0 where
     at-true : AllowsFrom x 1
-    along : {v : ℕ} → v < nodes → AllowsFrom x (target v (x (asked v))) → AllowsFrom x (suc (suc v))
+    along : {v : ℕ} → v < nodes → x (asked v) < width v → AllowsFrom x (target v (x (asked v))) → AllowsFrom x (suc (suc v))

@@ -1,6 +1,6 @@
 pub mod Lent
 pub mod Sound
 pub mod Rules
-pub mod Reach
+pub mod Range
 pub mod Numbers
 pub mod Promise

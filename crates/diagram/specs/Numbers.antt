@@ -18,7 +18,7 @@ abbrev pub lastNumber : ℕ → ℕ → ℕ → ℕ
 lastNumber D s E = D + s + 2 + E
 
 module _ (d : Lent) where
-  -- d1 + .. + d(i-1), for the option at index i
+  -- how many values the options before the one at index i have together
   unfoldable pub firstValue : ℕ → ℕ
   firstValue i = sumTo i (domain d)
 

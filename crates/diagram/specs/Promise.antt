@@ -14,21 +14,25 @@ use Rattle.diagram.specs.declared.Checked.{Checked}
 use Rattle.diagram.specs.declared.Checked.the-variants.{Sound, Refused}
 use Rattle.diagram.specs.declared.CheckAnswer.{CheckAnswer}
 
+-- n, s, D and E, as a result's values
+abbrev pub countsSaid : Diagram → List ℕ
+countsSaid c = c .options ∷ c .nodes ∷ c .values ∷ c .edges ∷ []
+
 -- the number and the values of each case
 abbrev pub checkSaid : Checked → Said
-checkSaid (Sound c) = result (c .options ∷ c .nodes ∷ c .values ∷ c .edges ∷ [])
+checkSaid (Sound c) = result (countsSaid c)
 checkSaid (Refused r) = refused r
 
--- n, s, D and E
-abbrev pub countsOf : Lent → List ℕ
-countsOf d = options d ∷ nodes d ∷ values d ∷ edges d ∷ []
+-- a diagram's own counts
+abbrev pub countsOf : Lent → Diagram
+countsOf d = record { options = options d; nodes = nodes d; values = values d; edges = edges d }
 
 pub record CheckPromise (d : Lent) (answer : CheckAnswer) : Type 0 where
-  pub says : checkSaid (answer .outcome) ≡ saying (chain (checkRules d)) (countsOf d)
+  pub says : checkSaid (answer .outcome) ≡ saying (chain (checkRules d)) (countsSaid (countsOf d))
 
-counts : (a b c e a′ b′ c′ e′ : ℕ) → a ≡ a′ → b ≡ b′ → c ≡ c′ → e ≡ e′
+same-counts : (a b c e a′ b′ c′ e′ : ℕ) → a ≡ a′ → b ≡ b′ → c ≡ c′ → e ≡ e′
     → _≡_ {A = Diagram} (record { options = a; nodes = b; values = c; edges = e }) (record { options = a′; nodes = b′; values = c′; edges = e′ })
-counts a b c e a′ b′ c′ e′ p q r s = rw (p, q, r, s)
+same-counts a b c e a′ b′ c′ e′ p q r s = rw (p, q, r, s)
 
 value : ℕ → Said → ℕ
 value k s = getD (s .values) k 0
@@ -36,7 +40,7 @@ value k s = getD (s .values) k 0
 -- no two cases say the same
 pub check-said-once : (a b : Checked) → checkSaid a ≡ checkSaid b → a ≡ b
 unfolding value
-check-said-once (Sound c) (Sound e) p = ap Sound (counts _ _ _ _ _ _ _ _ (ap (value 0) p) (ap (value 1) p) (ap (value 2) p) (ap (value 3) p))
+check-said-once (Sound c) (Sound e) p = ap Sound (same-counts _ _ _ _ _ _ _ _ (ap (value 0) p) (ap (value 1) p) (ap (value 2) p) (ap (value 3) p))
 check-said-once (Sound c) (Refused r) p = let q = ap (λ (s : Said). s .values) p in cc
 check-said-once (Refused r) (Sound c) p = let q = ap (λ (s : Said). s .values) p in cc
 check-said-once (Refused r) (Refused s) p = ap Refused (refused-one r s p)

@@ -13,7 +13,7 @@ use Rattle.diagram.specs.Lent.{Lent, options, nodes, domain, layer, firs
 abbrev pub outside : ℕ → ℕ → ℕ → Bool
 outside low high x = ltb x low || ltb high x
 
--- a layer in 2 to n that does not fall below the one before it is no bad one
+-- the layer of a node after the root lies outside 2 to n, or falls below the one before it
 abbrev pub breaksRule : ℕ → ℕ → ℕ → Bool
 breaksRule n before i = outside 2 n i || ltb i before
 

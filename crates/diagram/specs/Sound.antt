@@ -10,12 +10,25 @@ use Rattle.diagram.specs.Lent.{Lent, options, nodes, domain, layer, widt
 abbrev pub Within : ℕ → ℕ → ℕ → Type 0
 Within low high x = (low ≤ x) × (x ≤ high)
 
+-- what each number from 1 to 6 asks for
 module _ (d : Lent) where
+  abbrev pub OptionsFit : Type 0
+  OptionsFit = Within 1 64 (options d)
+
+  abbrev pub DomainFits : ℕ → Type 0
+  DomainFits i = Within 1 32 (domain d i)
+
+  abbrev pub NodesFit : Type 0
+  NodesFit = Within 1 4096 (nodes d)
+
   -- the root alone has layer 1; the later layers lie in 2 to n and never fall along the list
   pub record LayerFits (v : ℕ) : Type 0 where
     pub root : v ≡ 0 → layer d v ≡ 1
     pub later : 0 < v → Within 2 (options d) (layer d v)
     pub rising : 0 < v → layer d (v - 1) ≤ layer d v
+
+  abbrev pub Counted : Type 0
+  Counted = length (d .targets) ≡ edges d
 
   -- an edge from layer i below n goes to F or to a node of layer i + 1; one from layer n goes to F or T
   pub data Permitted (i : ℕ) : ℕ → Type 0 where
@@ -29,23 +42,23 @@ module _ (d : Lent) where
 
   -- the domains and the layers are as they should be
   pub record Shaped : Type 0 where
-    pub options-fit : Within 1 64 (options d)
-    pub domains-fit : (i : ℕ) → i < options d → Within 1 32 (domain d i)
-    pub nodes-fit : Within 1 4096 (nodes d)
+    pub options-fit : OptionsFit
+    pub domains-fit : (i : ℕ) → i < options d → DomainFits i
+    pub nodes-fit : NodesFit
     pub layers-fit : (v : ℕ) → v < nodes d → LayerFits v
 
   pub record Sound : Type 0 where
     pub shaped : Shaped
-    pub counted : length (d .targets) ≡ edges d
+    pub counted : Counted
     pub permitted : (v j : ℕ) → v < nodes d → j < width d v → Permitted (layer d v) (target d v j)
 
   -- numbers 1 to 6, with their places
   abbrev pub checkTable : List Row
   checkTable =
-      row 1 (λ p. (p ≡ 0) × (Within 1 64 (options d) → ⊥))
-      ∷ row 2 (FirstFailing (options d) (λ i. Within 1 32 (domain d i)))
-      ∷ row 3 (λ p. (p ≡ 0) × (Within 1 4096 (nodes d) → ⊥))
+      row 1 (λ p. (p ≡ 0) × (OptionsFit → ⊥))
+      ∷ row 2 (FirstFailing (options d) DomainFits)
+      ∷ row 3 (λ p. (p ≡ 0) × (NodesFit → ⊥))
       ∷ row 4 (FirstFailing (nodes d) LayerFits)
-      ∷ row 5 (λ p. (p ≡ 0) × (length (d .targets) ≡ edges d → ⊥))
+      ∷ row 5 (λ p. (p ≡ 0) × (Counted → ⊥))
       ∷ row 6 (FirstFailing (edges d) TargetFits)
       ∷ []

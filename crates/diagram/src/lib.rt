@@ -15,7 +15,7 @@ ghost use Rattle.diagram.specs.Lent.{lent, options, nodes, layer, firstE
 ghost use Rattle.diagram.specs.Sound.{Shaped};
 ghost use Rattle.diagram.specs.Rules.{outside, breaksRule, badDomain, badLayer, badTarget, optionRules, nodeRules, targetRules, checkRules};
 ghost use Rattle.diagram.specs.Numbers.{valueNumber, referenceNumber, edgeNumber, lastNumber, values};
-ghost use Rattle.diagram.specs.Reach.{Rising, NoneAbove, LayerEnd, stray, Reaches};
+ghost use Rattle.diagram.specs.Range.{Rising, NoneAbove, LayerEnd, stray, RangeOf};
 ghost use Rattle.diagram.specs.Promise.{CheckPromise};
 
 // A sound diagram's counts: options (n), nodes (s), values (D) and edges (E).
@@ -126,7 +126,7 @@ fn is_bad_layer(domains: &[u32], layers: &[u32], v: usize) -> bool
     breaks(domains.len() as u32, layers[v - 1], layers[v])
 }
 
-// How many nodes after the root break the rule: counted without a branch on any one of them.
+// How many nodes after the root break the rule: counted to the end, and never left early.
 fn count_bad_layers(domains: &[u32], layers: &[u32]) -> u32
     requires { ⌜ (length (now domains) ≤ 64) × (1 ≤ length (now layers)) × (length (now layers) ≤ 4096) ⌝ }
     ensures { λ r. ⌜ r ≡ countTo (length (now (layers .entry)) - 1) (λ (j : ℕ). badLayer (lent (now (domains .entry)) (now (layers .entry)) []) (1 + j)) ⌝ }
@@ -231,11 +231,11 @@ fn edge_count(domains: &[u32], layers: &[u32]) -> usize
     ensures { λ r. ⌜ r ≡ edges (lent (now (domains .entry)) (now (layers .entry)) []) ⌝ }
 {
     let mut e: usize = 0;
-    let mut v = 0;
-    while v < layers.len() {
-        let next = layer_end(layers, v, layers[v]);
-        e += layer_edges(domains, layers, v, next);
-        v = next;
+    let mut w = 0;
+    while w < layers.len() {
+        let next = layer_end(layers, w, layers[w]);
+        e += layer_edges(domains, layers, w, next);
+        w = next;
     }
     e
 }
@@ -243,7 +243,7 @@ fn edge_count(domains: &[u32], layers: &[u32]) -> usize
 // ---- numbers 5 and 6
 
 // Where the edges of a layer may lead: to a reference below `ends`, or to one from `low` to before `high`.
-struct Reach {
+struct Range {
     ends: u32,
     low: u32,
     high: u32,
@@ -258,42 +258,42 @@ fn ends_of(domains: &[u32], layer: u32) -> u32
     1
 }
 
-fn reach_of(domains: &[u32], layers: &[u32], v: usize, next: usize) -> Reach
+fn range_of(domains: &[u32], layers: &[u32], v: usize, next: usize) -> Range
     requires { ⌜ Shaped (lent (now domains) (now layers) []) ⌝ }
     requires { ⌜ v < length (now layers) ⌝ }
     requires { ⌜ LayerEnd (now layers) v (getD (now layers) v 0) next ⌝ }
-    ensures { λ r. ⌜ Reaches (lent (now (domains .entry)) (now (layers .entry)) []) (getD (now (layers .entry)) v 0) r ⌝ }
+    ensures { λ r. ⌜ RangeOf (lent (now (domains .entry)) (now (layers .entry)) []) (getD (now (layers .entry)) v 0) r ⌝ }
 {
     let layer = layers[v];
     let after = layer_end(layers, next, layer + 1);
-    Reach {
+    Range {
         ends: ends_of(domains, layer),
         low: next as u32 + 2,
         high: after as u32 + 2,
     }
 }
 
-fn is_stray(reach: Reach, t: u32) -> bool
-    ensures { λ r. ⌜ r ≡ stray reach t ⌝ }
+fn is_stray(range: Range, t: u32) -> bool
+    ensures { λ r. ⌜ r ≡ stray range t ⌝ }
 {
-    if t < reach.ends {
+    if t < range.ends {
         return false;
     }
-    if t < reach.low {
+    if t < range.low {
         return true;
     }
-    reach.high <= t
+    range.high <= t
 }
 
-// How many of a layer's targets stray: counted without a branch on any one of them.
-fn count_strays(reach: Reach, part: &[u32]) -> u32
+// How many of a layer's targets stray: counted to the end, and never left early.
+fn count_strays(range: Range, part: &[u32]) -> u32
     requires { ⌜ length (now part) ≤ 131072 ⌝ }
-    ensures { λ r. ⌜ r ≡ countTo (length (now (part .entry))) (λ (j : ℕ). stray reach (getD (now (part .entry)) j 0)) ⌝ }
+    ensures { λ r. ⌜ r ≡ countTo (length (now (part .entry))) (λ (j : ℕ). stray range (getD (now (part .entry)) j 0)) ⌝ }
 {
     let mut n: u32 = 0;
     let mut j = 0;
     while j < part.len() {
-        if is_stray(reach, part[j]) {
+        if is_stray(range, part[j]) {
             n += 1;
         }
         j += 1;
@@ -301,12 +301,12 @@ fn count_strays(reach: Reach, part: &[u32]) -> u32
     n
 }
 
-fn search_stray(reach: Reach, part: &[u32]) -> Found
-    ensures { λ r. ⌜ r ≡ first (λ (j : ℕ). stray reach (getD (now (part .entry)) j 0)) (length (now (part .entry))) ⌝ }
+fn search_stray(range: Range, part: &[u32]) -> Found
+    ensures { λ r. ⌜ r ≡ first (λ (j : ℕ). stray range (getD (now (part .entry)) j 0)) (length (now (part .entry))) ⌝ }
 {
     let mut j = 0;
     while j < part.len() {
-        if is_stray(reach, part[j]) {
+        if is_stray(range, part[j]) {
             return Found::At(j);
         }
         j += 1;
@@ -315,14 +315,14 @@ fn search_stray(reach: Reach, part: &[u32]) -> Found
 }
 
 // The first stray target: searched for only where the count is not 0.
-fn first_stray(reach: Reach, part: &[u32]) -> Found
+fn first_stray(range: Range, part: &[u32]) -> Found
     requires { ⌜ length (now part) ≤ 131072 ⌝ }
-    ensures { λ r. ⌜ r ≡ first (λ (j : ℕ). stray reach (getD (now (part .entry)) j 0)) (length (now (part .entry))) ⌝ }
+    ensures { λ r. ⌜ r ≡ first (λ (j : ℕ). stray range (getD (now (part .entry)) j 0)) (length (now (part .entry))) ⌝ }
 {
-    if count_strays(reach, part) == 0 {
+    if count_strays(range, part) == 0 {
         return Found::Nothing;
     }
-    search_stray(reach, part)
+    search_stray(range, part)
 }
 
 fn first_bad_target(domains: &[u32], layers: &[u32], targets: &[u32]) -> Found
@@ -335,8 +335,8 @@ fn first_bad_target(domains: &[u32], layers: &[u32], targets: &[u32]) -> Found
     while v < layers.len() {
         let next = layer_end(layers, v, layers[v]);
         let e = a + layer_edges(domains, layers, v, next);
-        let reach = reach_of(domains, layers, v, next);
-        if let Found::At(j) = first_stray(reach, &targets[a..e]) {
+        let range = range_of(domains, layers, v, next);
+        if let Found::At(j) = first_stray(range, &targets[a..e]) {
             return Found::At(a + j);
         }
         a = e;

@@ -11,7 +11,7 @@ use lib.Dec.{leb, eqb}
 use borrow.Author.Tests.{leb-true, leb-false, eqb-true, eqb-false, eq-eqb, ne-eqb, not-true, not-false}
 use Rattle.lists.specs.First.{foundIf, first, FirstFailing}
 use Rattle.lists.proofs.FirstLaws.{Tests, tests-one, tests-each}
-use Rattle.refusal.specs.Rules.{rule, refusal, chain}
+use Rattle.refusal.specs.Rules.{rule, chain}
 use Rattle.refusal.specs.Said.{Said, result, saying}
 use Rattle.refusal.specs.Table.{ExactlyWhen}
 use Rattle.refusal.specs.declared.Refusal.{Refusal}
@@ -20,12 +20,13 @@ use Rattle.refusal.specs.declared.Verdict.the-variants.{Passed, Refused as Refu
 use Rattle.refusal.proofs.RulesLaws.{refuses, passes, passed, not-due}
 use Rattle.refusal.proofs.SaidLaws.{said-refused, said-passed}
 use Rattle.refusal.proofs.TableLaws.{Faithful, faithful-append, exactly-when}
-use Rattle.diagram.specs.Lent.{Lent, lent, options, domain, held, end, Allows}
+use Rattle.diagram.specs.Lent.{Lent, lent, options, domain, chosen, end, Allows, AllowsFrom}
 use Rattle.diagram.specs.Sound.{Sound, checkTable}
 use Rattle.diagram.specs.Rules.{checkRules}
+use Rattle.diagram.proofs.AllowsLaws.{sound-ranked, allows-exactly}
 use Rattle.diagram.proofs.SoundLaws.{check-faithful, passed-sound, sound-passed}
 use Rattle.judge.specs.Build.{ValueFits, buildTable, judgeTable, badValue, buildRules, judgeRules, Fits}
-use Rattle.judge.specs.Promise.{judgeSaid, allowsTest, JudgePromise, JudgedSound, judge-said-once}
+use Rattle.judge.specs.Promise.{judgeSaid, allowsTest, JudgedBy, JudgePromise, judge-said-once}
 use Rattle.judge.specs.declared.Judged.{Judged}
 use Rattle.judge.specs.declared.Judged.the-variants.{Allowed, NotAllowed, Refused}
 use Rattle.judge.specs.declared.JudgeAnswer.{JudgeAnswer}
@@ -41,7 +42,7 @@ module _ (d : Lent) (build : List ℕ) where
   tests-9 : Tests (first (badValue d build) (options d)) (FirstFailing (options d) (ValueFits d build)) ((i : ℕ) → i < options d → ValueFits d build i)
   tests-9 =
       tests-each (badValue d build) (ValueFits d build) (options d)
-      (λ i _ e. leb-false (domain d i) (held build i) e) (λ i _ e h. omega (arith, leb-true (domain d i) (held build i) e))
+      (λ i _ e. leb-false (domain d i) (chosen build i) e) (λ i _ e h. omega (arith, leb-true (domain d i) (chosen build i) e))
 
   build-faithful : Faithful (buildRules d build) (buildTable d build)
   unfolding buildRules
@@ -74,7 +75,7 @@ module _ (d : Lent) (build : List ℕ) where
   unfolding judgeRules
   judge-refuses r e = record { says = rw (sym (refuses (checkRules d) (buildRules d build) refl e) ∙ e) }
 
-  pub judge-goes-on : (answer : JudgeAnswer) → chain (checkRules d) ≡ Passed → JudgedSound d build answer → JudgePromise d build answer
+  pub judge-goes-on : (answer : JudgeAnswer) → chain (checkRules d) ≡ Passed → JudgedBy (buildRules d build) d build answer → JudgePromise d build answer
   unfolding judgeRules
   judge-goes-on answer e j = record { says = j .says ∙ ap (λ (v : Verdict). saying v (cond (allowsTest d build) 1 0 ∷ [])) (passes (checkRules d) (buildRules d build) refl e refl) }
 
@@ -88,8 +89,8 @@ module _ (d : Lent) (build : List ℕ) where
     )
 
     -- each of the numbers 1 to 6, 8 and 9 is given exactly when its row is due and none before it is
-    pub judge-exactly-when : ExactlyWhen (judgeTable d build) (λ n p. answer .outcome ≡ Refused (refusal n p)) (Sound d × Fits d build)
-    judge-exactly-when = exactly-when (judgeRules d build) (judgeTable d build) judge-faithful tt (λ n p. refused-exactly (refusal n p)) (all-passed .1, all-passed .0)
+    pub judge-exactly-when : ExactlyWhen (judgeTable d build) (λ r. answer .outcome ≡ Refused r)
+    judge-exactly-when = exactly-when (judgeRules d build) (judgeTable d build) judge-faithful tt refused-exactly
 
     -- the two results: the walk's test, and what it is for
     results : (o : Judged) (b : Bool) (u : ℕ) → judgeSaid o ≡ result (u ∷ []) → u ≡ cond b 1 0 → Sound d × Fits d build → allowsTest d build ≡ b → answer .outcome ≡ o
@@ -102,26 +103,29 @@ module _ (d : Lent) (build : List ℕ) where
         let q : saying (chain (judgeRules d build)) (cond (allowsTest d build) 1 0 ∷ []) ≡ result (cond (allowsTest d build) 1 0 ∷ []) = rw p in
         (all-passed .0 p, ap (λ (t : Said). getD (t .values) 0 0) (s ∙ q))
 
-    tested : (b : Bool) → _≡_ {A = ℕ} (cond b 1 0) 1 → b ≡ true
-    tested true e = refl
-    tested false e = absurd (omega arith)
+    is-one : (b : Bool) → _≡_ {A = ℕ} (cond b 1 0) 1 → b ≡ true
+    is-one true e = refl
+    is-one false e = absurd (omega arith)
 
-    not-tested : (b : Bool) → _≡_ {A = ℕ} (cond b 1 0) 0 → b ≡ false
-    not-tested true e = absurd (omega arith)
-    not-tested false e = refl
+    is-none : (b : Bool) → _≡_ {A = ℕ} (cond b 1 0) 0 → b ≡ false
+    is-none true e = absurd (omega arith)
+    is-none false e = refl
 
-    -- "allowed" is answered exactly when nothing is refused and the diagram allows the build, and "not allowed" exactly
-    -- when nothing is refused and it does not
-    pub allowed-exactly : (answer .outcome ≡ Allowed) ↔ ((Sound d × Fits d build) × Allows d (held build))
+    allowed-so : Sound d × Fits d build → Allows d (chosen build) ↔ AllowsFrom d (chosen build) 2
+    allowed-so w = allows-exactly d (sound-ranked d (w .0)) (chosen build) (w .1 .in-domain)
+
+    -- "allowed" is answered exactly when the diagram is sound, the build fits it, and the root allows the build
+    pub allowed-exactly : (answer .outcome ≡ Allowed) ↔ ((Sound d × Fits d build) × AllowsFrom d (chosen build) 2)
     allowed-exactly = (
-      (λ e. let w = tells Allowed 1 refl e in (w .0, eqb-true (end d (held build) 2) 1 (tested (allowsTest d build) (sym (w .1))))),
-      (λ w. results Allowed true 1 refl refl (w .0) (eq-eqb (end d (held build) 2) 1 (w .1))),
+      (λ e. let w = tells Allowed 1 refl e in (w .0, allowed-so (w .0) .0 (eqb-true (end d (chosen build) 2) 1 (is-one (allowsTest d build) (sym (w .1)))))),
+      (λ w. results Allowed true 1 refl refl (w .0) (eq-eqb (end d (chosen build) 2) 1 (allowed-so (w .0) .1 (w .1)))),
     )
 
-    pub not-allowed-exactly : (answer .outcome ≡ NotAllowed) ↔ ((Sound d × Fits d build) × (Allows d (held build) → ⊥))
+    -- "not allowed" exactly when the diagram is sound, the build fits it, and the root does not allow it
+    pub not-allowed-exactly : (answer .outcome ≡ NotAllowed) ↔ ((Sound d × Fits d build) × (AllowsFrom d (chosen build) 2 → ⊥))
     not-allowed-exactly = (
-      (λ e. let w = tells NotAllowed 0 refl e in (w .0, eqb-false (end d (held build) 2) 1 (not-tested (allowsTest d build) (sym (w .1))))),
-      (λ w. results NotAllowed false 0 refl refl (w .0) (ne-eqb (end d (held build) 2) 1 (w .1))),
+      (λ e. let w = tells NotAllowed 0 refl e in (w .0, λ a. eqb-false (end d (chosen build) 2) 1 (is-none (allowsTest d build) (sym (w .1))) (allowed-so (w .0) .1 a))),
+      (λ w. results NotAllowed false 0 refl refl (w .0) (ne-eqb (end d (chosen build) 2) 1 (λ q. w .1 (allowed-so (w .0) .0 q)))),
     )
 
 -- the rules of the build read no list but the domains

@@ -8,13 +8,13 @@ use lib.Dec.{leb, eqb}
 use Rattle.lists.specs.First.{foundIf, first, FirstFailing}
 use Rattle.refusal.specs.Rules.{Rule, rule}
 use Rattle.refusal.specs.Table.{Row, row}
-use Rattle.diagram.specs.Lent.{Lent, options, domain, held}
+use Rattle.diagram.specs.Lent.{Lent, options, domain, chosen, Build}
 use Rattle.diagram.specs.Sound.{checkTable}
 use Rattle.diagram.specs.Rules.{checkRules}
 
 module _ (d : Lent) (build : List ℕ) where
   abbrev pub ValueFits : ℕ → Type 0
-  ValueFits i = held build i < domain d i
+  ValueFits i = chosen build i < domain d i
 
   -- numbers 8 and 9, with their places
   abbrev pub buildTable : List Row
@@ -28,7 +28,7 @@ module _ (d : Lent) (build : List ℕ) where
 
   -- the same as tests that compute
   abbrev pub badValue : ℕ → Bool
-  badValue i = leb (domain d i) (held build i)
+  badValue i = leb (domain d i) (chosen build i)
 
   unfoldable pub buildRules : List Rule
   buildRules =
@@ -39,7 +39,7 @@ module _ (d : Lent) (build : List ℕ) where
   unfoldable pub judgeRules : List Rule
   judgeRules = checkRules d ++ buildRules
 
-  -- a build that is not refused
+  -- a build that is not refused: as long as there are options, with each value in its domain
   pub record Fits : Type 0 where
     pub whole : length build ≡ options d
-    pub in-domain : (i : ℕ) → i < options d → ValueFits i
+    pub in-domain : Build d (chosen build)

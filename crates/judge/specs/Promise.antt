@@ -5,11 +5,11 @@ use mathlib.Core.List.{List, [], _∷_}
 use Prim.Native.Nat.{ℕ}
 use lib.Dec.{eqb}
 use native.Mathlib.Omega.{arith}
-use Rattle.refusal.specs.Rules.{chain}
+use Rattle.refusal.specs.Rules.{Rule, chain}
 use Rattle.refusal.specs.Said.{Said, refused, result, saying}
 use Rattle.refusal.proofs.SaidLaws.{refused-one}
-use Rattle.diagram.specs.Lent.{Lent, held, end}
-use Rattle.judge.specs.Build.{buildRules, judgeRules}
+use Rattle.diagram.specs.Lent.{Lent, chosen, end}
+use Rattle.judge.specs.Build.{judgeRules}
 use Rattle.judge.specs.declared.Judged.{Judged}
 use Rattle.judge.specs.declared.Judged.the-variants.{Allowed, NotAllowed, Refused}
 use Rattle.judge.specs.declared.JudgeAnswer.{JudgeAnswer}
@@ -22,14 +22,14 @@ judgeSaid (Refused r) = refused r
 
 -- the test of `Allows`: the walk of the build ends at T
 abbrev pub allowsTest : Lent → List ℕ → Bool
-allowsTest d build = eqb (end d (held build) 2) 1
+allowsTest d build = eqb (end d (chosen build) 2) 1
 
-pub record JudgePromise (d : Lent) (build : List ℕ) (answer : JudgeAnswer) : Type 0 where
-  pub says : judgeSaid (answer .outcome) ≡ saying (chain (judgeRules d build)) (cond (allowsTest d build) 1 0 ∷ [])
+-- the answer is the first refusal of the rules that is due, or whether the diagram allows the build
+pub record JudgedBy (rules : List Rule) (d : Lent) (build : List ℕ) (answer : JudgeAnswer) : Type 0 where
+  pub says : judgeSaid (answer .outcome) ≡ saying (chain rules) (cond (allowsTest d build) 1 0 ∷ [])
 
--- the same once the diagram has passed: what the functions inside `judge` say to each other
-pub record JudgedSound (d : Lent) (build : List ℕ) (answer : JudgeAnswer) : Type 0 where
-  pub says : judgeSaid (answer .outcome) ≡ saying (chain (buildRules d build)) (cond (allowsTest d build) 1 0 ∷ [])
+abbrev pub JudgePromise : Lent → List ℕ → JudgeAnswer → Type 0
+JudgePromise d build = JudgedBy (judgeRules d build) d build
 
 -- no two cases say the same
 pub judge-said-once : (a b : Judged) → judgeSaid a ≡ judgeSaid b → a ≡ b

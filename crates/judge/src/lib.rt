@@ -12,7 +12,7 @@ ghost use Rattle.refusal.specs.Rules.{chain};
 ghost use Rattle.diagram.specs.Lent.{lent, firstEdge};
 ghost use Rattle.diagram.specs.Sound.{Shaped, Sound};
 ghost use Rattle.judge.specs.Build.{badValue, buildRules, Fits};
-ghost use Rattle.judge.specs.Promise.{allowsTest, JudgePromise, JudgedSound};
+ghost use Rattle.judge.specs.Promise.{allowsTest, JudgedBy, JudgePromise};
 
 pub enum Judged {
     Allowed,
@@ -91,7 +91,7 @@ fn walks_to_true(domains: &[u32], layers: &[u32], targets: &[u32], build: &[u32]
 
 fn judge_sound(domains: &[u32], layers: &[u32], targets: &[u32], build: &[u32]) -> JudgeAnswer
     requires { ⌜ Sound (lent (now domains) (now layers) (now targets)) ⌝ }
-    ensures { λ r. ⌜ JudgedSound (lent (now (domains .entry)) (now (layers .entry)) (now (targets .entry))) (now (build .entry)) r ⌝ }
+    ensures { λ r. ⌜ JudgedBy (buildRules (lent (now (domains .entry)) (now (layers .entry)) (now (targets .entry))) (now (build .entry))) (lent (now (domains .entry)) (now (layers .entry)) (now (targets .entry))) (now (build .entry)) r ⌝ }
 {
     match check_build(domains, build) {
         Verdict::Refused(r) => JudgeAnswer {

@@ -51,8 +51,8 @@ module _ (bad : ℕ → Bool) where
       go r (inl l) = rw (← l, p, q)
       go r (inr l) = rw (← (r l))
 
-  pub end : (i n : ℕ) → first bad i ≡ Nothing → i ≤ n → n ≤ i → Nothing ≡ first bad n
-  end i n p h l = let e : i ≡ n = omega arith in rw (← e, p)
+  pub done : (i n : ℕ) → first bad i ≡ Nothing → i ≤ n → n ≤ i → Nothing ≡ first bad n
+  done i n p h l = let e : i ≡ n = omega arith in rw (← e, p)
 
   -- nothing is found exactly when the test holds nowhere below n
   pub none-bad : (n : ℕ) → first bad n ≡ Nothing → (k : ℕ) → k < n → bad k ≡ false
@@ -85,21 +85,21 @@ module _ (bad : ℕ → Bool) where
 
 -- a search that goes on from a, where none below a is bad
 module _ (bad : ℕ → Bool) (a : ℕ) (e : first bad a ≡ Nothing) where
-  before : (k i : ℕ) → ((j : ℕ) → j < k → bad (a + j) ≡ false) → i < a + k → bad i ≡ false
-  before k i g h = go (below-or-not i a)
+  earlier : (k i : ℕ) → ((j : ℕ) → j < k → bad (a + j) ≡ false) → i < a + k → bad i ≡ false
+  earlier k i g h = go (below-or-not i a)
     where
       go : (i < a) ⊎ (a ≤ i) → bad i ≡ false
       go (inl l) = none-bad bad a e i l
       go (inr l) = let q : i ≡ a + (i - a) = omega arith in ap bad q ∙ g (i - a) (omega arith)
 
   pub on-none : (k : ℕ) → first (λ j. bad (a + j)) k ≡ Nothing → first bad (a + k) ≡ Nothing
-  on-none k g = bad-none bad (a + k) (λ i h. before k i (none-bad (λ j. bad (a + j)) k g) h)
+  on-none k g = bad-none bad (a + k) (λ i h. earlier k i (none-bad (λ j. bad (a + j)) k g) h)
 
   pub on-found : (k p n : ℕ) → first (λ j. bad (a + j)) k ≡ At p → a + k ≤ n → first bad n ≡ At (a + p)
   on-found k p n g h =
       let w = found-least (λ j. bad (a + j)) k p g in
       let l : p < k = w .0 in
-      least-found bad n (a + p) (omega arith) (w .1) (λ i l. before p i (w .2) l)
+      least-found bad n (a + p) (omega arith) (w .1) (λ i l. earlier p i (w .2) l)
 
 -- two tests that agree below n
 pub first-agrees : (f g : ℕ → Bool) (n : ℕ) → ((k : ℕ) → k < n → f k ≡ g k) → first f n ≡ first g n

@@ -11,10 +11,11 @@ use Rattle.lists.specs.declared.Found.{Found}
 use Rattle.lists.specs.declared.Found.the-variants.{Nothing, At}
 use Rattle.lists.proofs.FirstLaws.{found-one}
 use Rattle.refusal.specs.Rules.{Rule, rule, refusal, ruled, chain}
-use Rattle.refusal.specs.Table.{Row, row, numbers, before, either, DueIn, ExactlyWhen}
+use Rattle.refusal.specs.Table.{Row, row, numbers, before, either, DueIn, NoneBefore, ExactlyWhen}
 use Rattle.refusal.specs.declared.Refusal.{Refusal}
 use Rattle.refusal.specs.declared.Verdict.{Verdict}
 use Rattle.refusal.specs.declared.Verdict.the-variants.{Passed, Refused}
+use Rattle.refusal.proofs.RulesLaws.{never-both}
 
 -- n is not among the numbers; each number stands once: tests that compute
 abbrev lacks : ℕ → List ℕ → Bool
@@ -93,14 +94,10 @@ before-numbers n m (k ∷ order) h = go (eqb k n) h (before-numbers n m order)
     go true h r = absurd (List·Memᴰ·not-nil h)
     go false h r = ⊎-elim (λ (e : m ≡ k). List·Memᴰ·head e) (λ l. List·Memᴰ·tail (r l)) (List·Memᴰ·cases-cons h)
 
--- no row that is looked for before n is due
-abbrev Free : List Row → ℕ → Type 0
-Free table n = (m q : ℕ) → List·Memᴰ m (before n (numbers table)) → DueIn table m q → ⊥
-
-free-first : (m : ℕ) (due : ℕ → Type 0) (table : List Row) (n : ℕ) → m ≡ n → Free (row m due ∷ table) n
+free-first : (m : ℕ) (due : ℕ → Type 0) (table : List Row) (n : ℕ) → m ≡ n → NoneBefore (row m due ∷ table) n
 free-first m due table n e k q h r = List·Memᴰ·not-nil (rw (eq-eqb m n e) at h)
 
-free-later : (m : ℕ) (due : ℕ → Type 0) (table : List Row) (n : ℕ) → T (lacks m (numbers table)) → eqb m n ≡ false → ((q : ℕ) → due q → ⊥) → Free table n → Free (row m due ∷ table) n
+free-later : (m : ℕ) (due : ℕ → Type 0) (table : List Row) (n : ℕ) → T (lacks m (numbers table)) → eqb m n ≡ false → ((q : ℕ) → due q → ⊥) → NoneBefore table n → NoneBefore (row m due ∷ table) n
 free-later m due table n t e none free k q h r = ⊎-elim first rest (List·Memᴰ·cases-cons (rw e at h))
   where
     first : k ≡ m → ⊥
@@ -109,7 +106,7 @@ free-later m due table n t e none free k q h r = ⊎-elim first rest (List·Mem�
     rest : List·Memᴰ k (before n (numbers table)) → ⊥
     rest l = free k q l (later-due m due table k q (other k m (numbers table) t (before-numbers n k (numbers table) l)) r)
 
-free-rest : (m : ℕ) (due : ℕ → Type 0) (table : List Row) (n : ℕ) → T (lacks m (numbers table)) → eqb m n ≡ false → Free (row m due ∷ table) n → ((q : ℕ) → due q → ⊥) × Free table n
+free-rest : (m : ℕ) (due : ℕ → Type 0) (table : List Row) (n : ℕ) → T (lacks m (numbers table)) → eqb m n ≡ false → NoneBefore (row m due ∷ table) n → ((q : ℕ) → due q → ⊥) × NoneBefore table n
 free-rest m due table n t e free = (
   (λ q d. free m q (rw e (List·Memᴰ·head refl)) (due-first m due table m q refl d)),
   (λ k q h r. free k q (rw e (List·Memᴰ·tail h)) (due-later m due table k q (other k m (numbers table) t (before-numbers n k (numbers table) h)) r)),
@@ -117,7 +114,7 @@ free-rest m due table n t e free = (
 
 -- ---- the verdict
 
-told : (rules : List Rule) (table : List Row) → Faithful rules table → T (eachOnce (numbers table)) → (n p : ℕ) → chain rules ≡ Refused (refusal n p) → DueIn table n p × Free table n
+told : (rules : List Rule) (table : List Row) → Faithful rules table → T (eachOnce (numbers table)) → (n p : ℕ) → chain rules ≡ Refused (refusal n p) → DueIn table n p × NoneBefore table n
 unfolding chain
 told [] [] f t n p e = let z : _≡_ {A = ℕ} 0 1 = cc in absurd (omega arith)
 told [] (r ∷ table) f t n p e = absurd f
@@ -132,7 +129,7 @@ told (rule k Nothing ∷ rules) (row m due ∷ table) f t n p e =
     let i = other n m (numbers table) (u .0) (due-number table n p (w .0)) in
     (due-later m due table n p i (w .0), free-later m due table n (u .0) i (λ q d. found-one Nothing refl (f .1 q .1 d)) (w .1))
 
-tells : (rules : List Rule) (table : List Row) → Faithful rules table → T (eachOnce (numbers table)) → (n p : ℕ) → DueIn table n p → Free table n → chain rules ≡ Refused (refusal n p)
+tells : (rules : List Rule) (table : List Row) → Faithful rules table → T (eachOnce (numbers table)) → (n p : ℕ) → DueIn table n p → NoneBefore table n → chain rules ≡ Refused (refusal n p)
 unfolding chain
 tells [] [] f t n p r g = absurd r
 tells [] (x ∷ table) f t n p r g = absurd f
@@ -142,7 +139,7 @@ tells (rule k found ∷ rules) (row m due ∷ table) f t n p r g = go (eqb m n) 
     u : T (lacks m (numbers table)) × T (eachOnce (numbers table))
     u = and-both (lacks m (numbers table)) (eachOnce (numbers table)) t
 
-    go : (b : Bool) → eqb m n ≡ b → (DueIn table n p → Free table n → chain rules ≡ Refused (refusal n p)) → ruled k found (chain rules) ≡ Refused (refusal n p)
+    go : (b : Bool) → eqb m n ≡ b → (DueIn table n p → NoneBefore table n → chain rules ≡ Refused (refusal n p)) → ruled k found (chain rules) ≡ Refused (refusal n p)
     go true e s =
         let i = eqb-true m n e in
         rw (f .1 p .1 (first-due m due table p (subst (λ (j : ℕ). DueIn (row m due ∷ table) j p) (sym i) r))) (ap (λ (j : ℕ). Refused (refusal j p)) (f .0 ∙ i))
@@ -172,11 +169,18 @@ all-pass (rule k found ∷ rules) (row m due ∷ table) f t g =
     rw (nowhere found (λ q d. g m q (due-first m due table m q refl (f .1 q .0 d))))
     (all-pass rules table (f .2) (u .1) (λ n p r. g n p (due-later m due table n p (other n m (numbers table) (u .0) (due-number table n p r)) r)))
 
--- for any answer that is a refusal where the verdict is, and something else where it passes
+passes-or-refuses : (v : Verdict) → ((r : Refusal) → v ≡ Refused r → ⊥) → v ≡ Passed
+passes-or-refuses Passed h = refl
+passes-or-refuses (Refused r) h = absurd (h r refl)
+
+-- for any answer that is a refusal exactly where the verdict is
 module _ (rules : List Rule) (table : List Row) (f : Faithful rules table) (t : T (eachOnce (numbers table))) where
-  pub exactly-when : {Given : ℕ → ℕ → Type 0} {Well : Type 0} → ((n p : ℕ) → Given n p ↔ (chain rules ≡ Refused (refusal n p))) → (Well ↔ (chain rules ≡ Passed)) → ExactlyWhen table Given Well
-  exactly-when g w =
+  pub exactly-when : {Is : Refusal → Type 0} → ((r : Refusal) → Is r ↔ (chain rules ≡ Refused r)) → ExactlyWhen table Is
+  exactly-when g =
       record {
-        refused = λ n p. ((λ e. told rules table f t n p (g n p .0 e)), (λ h. g n p .1 (tells rules table f t n p (h .0) (h .1))));
-        passed = ((λ e n p r. none-due rules table f (w .0 e) n p r), (λ h. w .1 (all-pass rules table f t h)));
+        refused = λ n p. ((λ e. told rules table f t n p (g (refusal n p) .0 e)), (λ h. g (refusal n p) .1 (tells rules table f t n p (h .0) (h .1))));
+        not-refused = (
+          (λ h n p d. none-due rules table f (passes-or-refuses (chain rules) (λ r e. h r (g r .1 e))) n p d),
+          (λ h r e. never-both (chain rules) (all-pass rules table f t h) (g r .0 e)),
+        );
       }

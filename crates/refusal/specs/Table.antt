@@ -5,6 +5,8 @@ use mathlib.Core.List.{List, [], _∷_, List·Memᴰ}
 use mathlib.Core.Logic.{_↔_}
 use Prim.Native.Nat.{ℕ}
 use lib.Dec.{eqb}
+use Rattle.refusal.specs.Rules.{refusal}
+use Rattle.refusal.specs.declared.Refusal.{Refusal}
 
 -- a number, and what it is that it is due at a place
 pub data Row : Type 1 where
@@ -28,8 +30,12 @@ abbrev pub DueIn : List Row → ℕ → ℕ → Type 0
 DueIn [] n p = ⊥
 DueIn (row m due ∷ rows) n p = either (eqb m n) (due p) (DueIn rows n p)
 
--- number n is given at place p exactly when row n is due at p and no row that is looked for before it is due anywhere;
--- nothing is refused exactly when no row is due
-pub record ExactlyWhen (table : List Row) (Given : ℕ → ℕ → Type 0) (Passed : Type 0) : Type 0 where
-  pub refused : (n p : ℕ) → Given n p ↔ (DueIn table n p × ((m q : ℕ) → List·Memᴰ m (before n (numbers table)) → DueIn table m q → ⊥))
-  pub passed : Passed ↔ ((n p : ℕ) → DueIn table n p → ⊥)
+-- no row that is looked for before row n is due anywhere
+abbrev pub NoneBefore : List Row → ℕ → Type 0
+NoneBefore table n = (m q : ℕ) → List·Memᴰ m (before n (numbers table)) → DueIn table m q → ⊥
+
+-- `Is r` says that the answer is the refusal r. Number n is given at place p exactly when row n is due at p and none
+-- before it is due; nothing is refused exactly when no row is due
+pub record ExactlyWhen (table : List Row) (Is : Refusal → Type 0) : Type 0 where
+  pub refused : (n p : ℕ) → Is (refusal n p) ↔ (DueIn table n p × NoneBefore table n)
+  pub not-refused : ((r : Refusal) → Is r → ⊥) ↔ ((n p : ℕ) → DueIn table n p → ⊥)

@@ -46,7 +46,7 @@ impl Refusal {
 
     pub const OPEN_CLAUSE: u32 = 15;
 
-    pub const TEXT_LIMIT: u32 = 16;
+    pub const CLAUSE_LIMIT: u32 = 16;
 
     pub const HEADER: u32 = 17;
 

@@ -7,20 +7,20 @@ use lib.ListN.{length, getD}
 use borrow.Author.Needs.{needs}
 use Rattle.lists.specs.Upto.{countTo}
 use Rattle.lists.proofs.FirstLaws.{count-start, count-pass, count-found, count-most}
-use Rattle.diagram.specs.Reach.{stray}
+use Rattle.diagram.specs.Range.{stray}
 use Rattle.diagram.proofs.count_strays.Statement.{statement}
 use Rattle.diagram.proofs.count_strays.Tie as tie
 
 abbrev Inv-loop : tie.InvT-loop
-Inv-loop reach part n₀ j₀ n j = (j ≤ length part) × (n ≡ countTo j (λ (k : ℕ). stray reach (getD part k 0)))
+Inv-loop range part n₀ j₀ n j = (j ≤ length part) × (n ≡ countTo j (λ (k : ℕ). stray range (getD part k 0)))
 
 abbrev μ-loop : tie.MeasureT-loop
-μ-loop reach part n₀ j₀ n j = length part - j
+μ-loop range part n₀ j₀ n j = length part - j
 
 add-n : tie.Need-add-n Inv-loop μ-loop
 add-n c =
     let l = c .before .before .before .before .loop in
-    omega (arith, l .inv .1, count-most (λ (k : ℕ). stray (c .before .before .before .before .before .before .args .reach) (getD (c .before .before .before .before .before .before .args .part .now) k 0)) (l .j))
+    omega (arith, l .inv .1, count-most (λ (k : ℕ). stray (c .before .before .before .before .before .before .args .range) (getD (c .before .before .before .before .before .before .args .part .now) k 0)) (l .j))
 
 loop-again : tie.Need-loop-again Inv-loop μ-loop
 loop-again c =

@@ -1,4 +1,4 @@
--- `diagram::edge_count` meets its contract: e is the number of edges of the nodes before v. Assumes nothing.
+-- `diagram::edge_count` meets its contract: e is the number of edges of the nodes before w. Assumes nothing.
 use mathlib.Core.Path.{_≡_, sym, _∙_, ap}
 use mathlib.Core.List.{[]}
 use Prim.Native.Nat.{ℕ, _+_, _≤_, _-_}
@@ -7,15 +7,15 @@ use lib.ListN.{length}
 use borrow.Author.Needs.{needs}
 use Rattle.diagram.specs.Lent.{Lent, lent, firstEdge}
 use Rattle.diagram.proofs.ShapedLaws.{layers-rise, edges-none, edges-most}
-use Rattle.diagram.proofs.ReachLaws.{moves-on}
+use Rattle.diagram.proofs.RangeLaws.{moves-on}
 use Rattle.diagram.proofs.edge_count.Statement.{statement}
 use Rattle.diagram.proofs.edge_count.Tie as tie
 
 abbrev Inv-loop : tie.InvT-loop
-Inv-loop domains layers e₀ v₀ e v = (v ≤ length layers) × (e ≡ firstEdge (lent domains layers []) v)
+Inv-loop domains layers e₀ w₀ e w = (w ≤ length layers) × (e ≡ firstEdge (lent domains layers []) w)
 
 abbrev μ-loop : tie.MeasureT-loop
-μ-loop domains layers e₀ v₀ e v = length layers - v
+μ-loop domains layers e₀ w₀ e w = length layers - w
 
 abbrev start : tie.In-loop Inv-loop μ-loop → tie.Start Inv-loop μ-loop
 start t = t .before .before .before .before
@@ -42,6 +42,6 @@ edge-count-spec =
     (λ c κs. let t = c .before in (omega arith, layers-rise (d t) (start t .pre)))
     (λ c κs. let t = c .before .before in (start t .pre, (t .loop-test .taken, c .layer-end .ensures)))
     (λ c. omega (arith, counted c, edges-most (d (test c)) (start (test c) .pre) (c .before .layer-end .result) (c .before .layer-end .ensures .none-above .to-last)))
-    (λ c. omega (arith, moves-on (d (test c)) (start (test c) .pre) (test c .before .loop .v) (c .before .layer-end .result) (test c .loop-test .taken) (c .before .layer-end .ensures)))
+    (λ c. omega (arith, moves-on (d (test c)) (start (test c) .pre) (test c .before .loop .w) (c .before .layer-end .result) (test c .loop-test .taken) (c .before .layer-end .ensures)))
     (λ c. (c .before .layer-end .ensures .none-above .to-last, counted c))
-    (λ c. let l = c .before .loop in let q : l .v ≡ length (c .before .before .before .before .args .layers .now) = omega arith in rw (← q) (l .inv .1)))
+    (λ c. let l = c .before .loop in let q : l .w ≡ length (c .before .before .before .before .args .layers .now) = omega arith in rw (← q) (l .inv .1)))

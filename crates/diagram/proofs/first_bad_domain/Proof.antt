@@ -7,7 +7,7 @@ use lib.ListN.{length}
 use borrow.Author.Needs.{needs}
 use Rattle.lists.specs.First.{first}
 use Rattle.lists.specs.declared.Found.the-variants.{Nothing}
-use Rattle.lists.proofs.FirstLaws.{start, pass, stop, end}
+use Rattle.lists.proofs.FirstLaws.{start, pass, stop, done}
 use Rattle.diagram.specs.Lent.{lent}
 use Rattle.diagram.specs.Rules.{badDomain}
 use Rattle.diagram.proofs.first_bad_domain.Statement.{statement}
@@ -35,4 +35,4 @@ first-bad-domain-spec =
     (λ c. search needs)
     (λ c. search needs)
     (λ c. (search needs, pass _ _ (c .before .before .before .before .loop .inv .1) (sym (c .before .is-outside .ensures) ∙ c .if1 .left)))
-    (λ c. let l = c .before .loop in end _ _ _ (l .inv .1) (l .inv .0) (c .loop-test .left)))
+    (λ c. let l = c .before .loop in done _ _ _ (l .inv .1) (l .inv .0) (c .loop-test .left)))

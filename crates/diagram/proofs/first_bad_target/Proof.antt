@@ -7,13 +7,13 @@ use lib.ListN.{length, getD}
 use borrow.Author.Needs.{needs}
 use Rattle.lists.specs.First.{first}
 use Rattle.lists.specs.declared.Found.the-variants.{Nothing, At}
-use Rattle.lists.proofs.FirstLaws.{start, end, on-none, on-found, found-least}
+use Rattle.lists.proofs.FirstLaws.{start, done, on-none, on-found, found-least}
 use Rattle.diagram.specs.Lent.{Lent, lent, firstEdge, edges}
 use Rattle.diagram.specs.Sound.{Shaped}
 use Rattle.diagram.specs.Rules.{badTarget}
-use Rattle.diagram.specs.Reach.{LayerEnd}
+use Rattle.diagram.specs.Range.{LayerEnd}
 use Rattle.diagram.proofs.ShapedLaws.{layers-rise, reshaped, same-edges, edges-none, edges-rise, edges-most}
-use Rattle.diagram.proofs.ReachLaws.{moves-on, same-reach, part-length, in-part}
+use Rattle.diagram.proofs.RangeLaws.{moves-on, same-range, part-length, in-stretch}
 use Rattle.diagram.proofs.first_bad_target.Statement.{statement}
 use Rattle.diagram.proofs.first_bad_target.Tie as tie
 
@@ -58,8 +58,8 @@ found c =
     let e = c .before .before .before in
     let t = test e in
     let s = begin t .args in
-    in-part (d t) (shape t) (t .before .loop .v) (e .before .layer-end .result) (t .loop-test .taken) (e .before .layer-end .ensures)
-    (c .before .before .reach-of .result) (same-reach (s .domains .now) (s .layers .now) [] (s .targets .now) _ _ (c .before .before .reach-of .ensures))
+    in-stretch (d t) (shape t) (t .before .loop .v) (e .before .layer-end .result) (t .loop-test .taken) (e .before .layer-end .ensures)
+    (c .before .before .range-of .result) (same-range (s .domains .now) (s .layers .now) [] (s .targets .now) _ _ (c .before .before .range-of .ensures))
     (t .before .loop .a) _ (t .before .loop .inv .1) (is-e e) (room e) (c .first-stray .ensures)
 
 pub first-bad-target-spec : {M : Type 1} → statement M
@@ -106,4 +106,4 @@ first-bad-target-spec =
     let s = c .before .before .before .before .before in
     let q : l .v ≡ length (s .args .layers .now) = omega arith in
     let e : l .a ≡ edges (lent (s .args .domains .now) (s .args .layers .now) (s .args .targets .now)) = l .inv .1 ∙ ap (firstEdge _) q in
-    end _ (l .a) _ (l .inv .2) (omega arith) (omega arith)))
+    done _ (l .a) _ (l .inv .2) (omega arith) (omega arith)))

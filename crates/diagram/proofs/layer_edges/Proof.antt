@@ -6,7 +6,7 @@ use lib.ListN.{getD}
 use borrow.Author.Needs.{needs}
 use Rattle.diagram.specs.Lent.{Lent, lent}
 use Rattle.diagram.proofs.ShapedLaws.{layer-within, edges-most}
-use Rattle.diagram.proofs.ReachLaws.{stretch}
+use Rattle.diagram.proofs.RangeLaws.{stretch}
 use Rattle.diagram.proofs.layer_edges.Statement.{statement}
 use Rattle.diagram.proofs.layer_edges.Tie as tie
 

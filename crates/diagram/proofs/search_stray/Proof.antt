@@ -6,16 +6,16 @@ use lib.ListN.{length, getD}
 use borrow.Author.Needs.{needs}
 use Rattle.lists.specs.First.{first}
 use Rattle.lists.specs.declared.Found.the-variants.{Nothing}
-use Rattle.lists.proofs.FirstLaws.{start, pass, stop, end}
-use Rattle.diagram.specs.Reach.{stray}
+use Rattle.lists.proofs.FirstLaws.{start, pass, stop, done}
+use Rattle.diagram.specs.Range.{stray}
 use Rattle.diagram.proofs.search_stray.Statement.{statement}
 use Rattle.diagram.proofs.search_stray.Tie as tie
 
 abbrev Inv-loop : tie.InvT-loop
-Inv-loop reach part j₀ j = (j ≤ length part) × (first (λ (k : ℕ). stray reach (getD part k 0)) j ≡ Nothing)
+Inv-loop range part j₀ j = (j ≤ length part) × (first (λ (k : ℕ). stray range (getD part k 0)) j ≡ Nothing)
 
 abbrev μ-loop : tie.MeasureT-loop
-μ-loop reach part j₀ j = length part - j
+μ-loop range part j₀ j = length part - j
 
 pub search-stray-spec : {M : Type 1} → statement M
 search-stray-spec =
@@ -31,4 +31,4 @@ search-stray-spec =
     (λ c. search needs)
     (λ c. search needs)
     (λ c. (search needs, pass _ _ (c .before .before .before .before .loop .inv .1) (sym (c .before .is-stray .ensures) ∙ c .if1 .left)))
-    (λ c. let l = c .before .loop in end _ _ _ (l .inv .1) (l .inv .0) (c .loop-test .left)))
+    (λ c. let l = c .before .loop in done _ _ _ (l .inv .1) (l .inv .0) (c .loop-test .left)))

@@ -7,7 +7,7 @@ use native.Mathlib.Omega.{arith}
 use lib.ListN.{length, getD}
 use lib.Dec.{eqb}
 use borrow.Author.Needs.{needs}
-use Rattle.diagram.specs.Lent.{Lent, lent, nodes, domain, layer, asked, width, firstEdge, leads, target, held, end, Build}
+use Rattle.diagram.specs.Lent.{Lent, lent, nodes, domain, layer, asked, width, firstEdge, leads, target, chosen, end, Build}
 use Rattle.diagram.specs.Sound.{Within, Sound}
 use Rattle.diagram.proofs.ShapedLaws.{layer-within, edges-none, edges-room, edges-most, reshaped, same-edges}
 use Rattle.diagram.proofs.AllowsLaws.{Ranked, sound-ranked, later-node, later-is, end-of-end, next-later, end-step}
@@ -17,7 +17,7 @@ use Rattle.judge.proofs.walks_to_true.Tie as tie
 
 abbrev Inv-loop : tie.InvT-loop
 Inv-loop domains layers targets build v₀ a₀ v a =
-    (v < length layers) × (a ≡ firstEdge (lent domains layers targets) v) × (end (lent domains layers targets) (held build) (suc (suc v)) ≡ end (lent domains layers targets) (held build) 2)
+    (v < length layers) × (a ≡ firstEdge (lent domains layers targets) v) × (end (lent domains layers targets) (chosen build) (suc (suc v)) ≡ end (lent domains layers targets) (chosen build) 2)
 
 abbrev μ-loop : tie.MeasureT-loop
 μ-loop domains layers targets build v₀ a₀ v a = length layers - v
@@ -29,7 +29,7 @@ abbrev d : tie.In-loop Inv-loop μ-loop → Lent
 d t = lent (start t .args .domains .now) (start t .args .layers .now) (start t .args .targets .now)
 
 abbrev x : tie.In-loop Inv-loop μ-loop → ℕ → ℕ
-x t = held (start t .args .build .now)
+x t = chosen (start t .args .build .now)
 
 abbrev sound : (t : tie.In-loop Inv-loop μ-loop) → Sound (d t)
 sound t = start t .pre .0

@@ -18,8 +18,8 @@ use Rattle.lists.proofs.FirstLaws.{first-agrees}
 use Rattle.diagram.specs.Lent.{Lent, lent, options, nodes, domain, layer, asked, width, firstEdge, edges, leads, target}
 use Rattle.diagram.specs.Sound.{Within, LayerFits, Shaped}
 use Rattle.diagram.specs.Rules.{permits, owner, badTarget}
-use Rattle.diagram.specs.Reach.{NoneAbove, LayerEnd, stray, Reaches}
-use Rattle.diagram.specs.declared.Reach.{Reach}
+use Rattle.diagram.specs.Range.{NoneAbove, LayerEnd, stray, RangeOf}
+use Rattle.diagram.specs.declared.Range.{Range}
 use Rattle.diagram.proofs.ShapedLaws.{layer-within, layers-rise, edges-more, edges-rise, edges-room}
 
 -- nodes of layers up to i: none yet, and then some more
@@ -39,9 +39,9 @@ pub part-length : (l : List ℕ) (a e : ℕ) → e ≤ length l → length (take
 part-length l a e h = length-take-le (e - a) (drop a l) (omega (arith, length-drop a l))
 
 -- the targets have no part in where an edge may lead
-pub same-reach : (ds ls ts us : List ℕ) (i : ℕ) (r : Reach) → Reaches (lent ds ls ts) i r → Reaches (lent ds ls us) i r
+pub same-range : (ds ls ts us : List ℕ) (i : ℕ) (r : Range) → RangeOf (lent ds ls ts) i r → RangeOf (lent ds ls us) i r
 unfolding permits
-same-reach ds ls ts us i r f t = f t ∙ ap not (same t)
+same-range ds ls ts us i r f t = f t ∙ ap not (same t)
   where
     same : (t : ℕ) → permits (lent ds ls ts) i t ≡ permits (lent ds ls us) i t
     same zero = refl
@@ -137,34 +137,34 @@ module _ (d : Lent) (s : Shaped d) (v next : ℕ) (hv : v < nodes d) (end : Laye
         high : after ≤ w → (ltb (suc (suc w)) (next + 2) || leb (after + 2) (suc (suc w))) ≡ not (permits d (layer d v) (suc (suc w)))
         high l = rw (le-leb (after + 2) (suc (suc w)) (omega arith), lacking w (too-high w l)) (either-way (ltb (suc (suc w)) (next + 2)))
 
-    pub reach : (r : Reach) → r .ends ≡ cond (eqb (layer d v) (options d)) 2 1 → r .low ≡ next + 2 → r .high ≡ after + 2 → Reaches d (layer d v) r
+    pub range : (r : Range) → r .ends ≡ cond (eqb (layer d v) (options d)) 2 1 → r .low ≡ next + 2 → r .high ≡ after + 2 → RangeOf d (layer d v) r
     unfolding permits
-    reach r e f g zero = rw e (none (eqb (layer d v) (options d)))
+    range r e f g zero = rw e (none (eqb (layer d v) (options d)))
       where
         none : (b : Bool) → (not (ltb 0 (cond b 2 1)) && (ltb 0 (r .low) || leb (r .high) 0)) ≡ false
         none true = refl
         none false = refl
-    reach r e f g (suc zero) = rw (e, f, lt-ltb 1 (next + 2) (omega arith)) (one (eqb (layer d v) (options d)))
+    range r e f g (suc zero) = rw (e, f, lt-ltb 1 (next + 2) (omega arith)) (one (eqb (layer d v) (options d)))
       where
         one : (b : Bool) → (not (ltb 1 (cond b 2 1)) && true) ≡ not b
         one true = refl
         one false = refl
-    reach r e f g (suc (suc w)) = rw (e, f, g, le-ltb (suc (suc w)) (cond (eqb (layer d v) (options d)) 2 1) (most (eqb (layer d v) (options d)))) (node w)
+    range r e f g (suc (suc w)) = rw (e, f, g, le-ltb (suc (suc w)) (cond (eqb (layer d v) (options d)) 2 1) (most (eqb (layer d v) (options d)))) (node w)
       where
         most : (b : Bool) → cond b 2 1 ≤ suc (suc w)
         most true = omega arith
         most false = omega arith
 
-  -- the part of the targets that the layer's edges have, searched by the layer's reach
-  module _ (r : Reach) (reach : Reaches d (layer d v) r) (a e : ℕ) (is-a : a ≡ firstEdge d v) (is-e : e ≡ firstEdge d next) where
+  -- the part of the targets that the layer's edges have, searched by the layer's range
+  module _ (r : Range) (range : RangeOf d (layer d v) r) (a e : ℕ) (is-a : a ≡ firstEdge d v) (is-e : e ≡ firstEdge d next) where
     bad-in : (j : ℕ) → j < e - a → badTarget d (a + j) ≡ stray r (getD (take (e - a) (drop a (d .targets))) j 0)
     unfolding badTarget
     bad-in j h =
         rw (of-layer (a + j) (omega arith) (omega arith), getD-take (e - a) (drop a (d .targets)) j 0 h, getD-drop a (d .targets) j 0)
-        (sym (reach (leads d (a + j))))
+        (sym (range (leads d (a + j))))
 
-    pub in-part : {f : Found} → e ≤ length (d .targets)
+    pub in-stretch : {f : Found} → e ≤ length (d .targets)
         → f ≡ first (λ j. stray r (getD (take (e - a) (drop a (d .targets))) j 0)) (length (take (e - a) (drop a (d .targets)))) → f ≡ first (λ j. badTarget d (a + j)) (e - a)
-    in-part h q =
+    in-stretch h q =
         q ∙ ap (first (λ j. stray r (getD (take (e - a) (drop a (d .targets))) j 0))) (part-length (d .targets) a e h)
         ∙ first-agrees _ _ (e - a) (λ j k. sym (bad-in j k))

@@ -8,7 +8,7 @@ use lib.ListN.{length, getD}
 use lib.Dec.{ltb, leb}
 use Rattle.diagram.specs.Lent.{Lent}
 use Rattle.diagram.specs.Rules.{permits}
-use Rattle.diagram.specs.declared.Reach.{Reach}
+use Rattle.diagram.specs.declared.Range.{Range}
 
 -- the layers never fall along the list
 abbrev pub Rising : List ℕ → Type 0
@@ -25,10 +25,10 @@ pub record LayerEnd (ls : List ℕ) (from i end : ℕ) : Type 0 where
   pub none-above : NoneAbove ls from i end
   pub above : end < length ls → i < getD ls end 0
 
--- a reference that is none of the reach
-abbrev pub stray : Reach → ℕ → Bool
+-- a reference that is none of the range
+abbrev pub stray : Range → ℕ → Bool
 stray r t = not (ltb t (r .ends)) && (ltb t (r .low) || leb (r .high) t)
 
--- the reach is where edges of layer i may lead
-abbrev pub Reaches : Lent → ℕ → Reach → Type 0
-Reaches d i r = (t : ℕ) → stray r t ≡ not (permits d i t)
+-- the range is where edges of layer i may lead
+abbrev pub RangeOf : Lent → ℕ → Range → Type 0
+RangeOf d i r = (t : ℕ) → stray r t ≡ not (permits d i t)

@@ -1,4 +1,4 @@
--- `diagram::reach_of` meets its contract: the next layer's nodes are the range. Assumes nothing.
+-- `diagram::range_of` meets its contract: the next layer's nodes are the range. Assumes nothing.
 use mathlib.Core.Path.{_≡_, refl}
 use mathlib.Core.List.{[]}
 use Prim.Native.Nat.{_-_}
@@ -7,9 +7,9 @@ use lib.ListN.{length, getD}
 use borrow.Author.Needs.{needs}
 use Rattle.diagram.specs.Lent.{Lent, lent}
 use Rattle.diagram.proofs.ShapedLaws.{layer-within, layers-rise}
-use Rattle.diagram.proofs.ReachLaws.{reach}
-use Rattle.diagram.proofs.reach_of.Statement.{statement}
-use Rattle.diagram.proofs.reach_of.Tie as tie
+use Rattle.diagram.proofs.RangeLaws.{range}
+use Rattle.diagram.proofs.range_of.Statement.{statement}
+use Rattle.diagram.proofs.range_of.Tie as tie
 
 abbrev d : tie.Start → Lent
 d s = lent (s .args .domains .now) (s .args .layers .now) []
@@ -17,8 +17,8 @@ d s = lent (s .args .domains .now) (s .args .layers .now) []
 abbrev start : tie.After-ends-of → tie.Start
 start c = c .before .before .before .before .before
 
-pub reach-of-spec : {M : Type 1} → statement M
-reach-of-spec =
+pub range-of-spec : {M : Type 1} → statement M
+range-of-spec =
     tie.close
     (tie.spec
     (λ c. search needs)
@@ -30,4 +30,4 @@ reach-of-spec =
     (λ c. omega (arith, start c .pre .1 .1 .none-above .to-last, start c .pre .0 .nodes-fit))
     (λ c. omega (arith, c .before .layer-end .ensures .none-above .to-last, start c .pre .0 .nodes-fit))
     (λ c. omega (arith, c .before .layer-end .ensures .none-above .to-last, start c .pre .0 .nodes-fit))
-    (λ c. let s = start c in reach (d s) (s .pre .0) (s .args .v) (s .args .next) (s .pre .1 .0) (s .pre .1 .1) (c .before .layer-end .result) (c .before .layer-end .ensures) _ (c .ends-of .ensures) refl refl))
+    (λ c. let s = start c in range (d s) (s .pre .0) (s .args .v) (s .args .next) (s .pre .1 .0) (s .pre .1 .1) (c .before .layer-end .result) (c .before .layer-end .ensures) _ (c .ends-of .ensures) refl refl))
