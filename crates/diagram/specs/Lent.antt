@@ -55,6 +55,10 @@ module _ (d : Lent) where
   abbrev pub target : ℕ → ℕ → ℕ
   target v j = leads (firstEdge v + j)
 
+  -- each option's value lies in its domain
+  abbrev pub Build : (ℕ → ℕ) → Type 0
+  Build x = (i : ℕ) → i < options → x i < domain i
+
   -- a step of a build's walk: the ends stay, and a node goes along the edge of its option's value
   unfoldable pub step : (ℕ → ℕ) → ℕ → ℕ
   step x zero = 0
@@ -72,10 +76,6 @@ module _ (d : Lent) where
   -- the diagram allows the build: the walk from its root, node 0, ends at T
   abbrev pub Allows : (ℕ → ℕ) → Type 0
   Allows x = end x 2 ≡ 1
-
-  -- each option's value lies in its domain
-  abbrev pub Build : (ℕ → ℕ) → Type 0
-  Build x = (i : ℕ) → i < options → x i < domain i
 
   -- the same, said by cases: T allows whatever is left; a node allows values for the rest of the options when the edge
   -- of its option's value leads to T, or to a node that allows them
