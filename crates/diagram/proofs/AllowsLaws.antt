@@ -1,13 +1,11 @@
 -- Laws of a build's walk. What they need of a diagram is that its edges lead to ends or to later layers; so they hold
 -- wherever edges may skip options, too. Assumes nothing.
-use mathlib.Core.Path.{_≡_, refl, sym, _∙_, ap, subst}
-use mathlib.Core.Logic.{_⊎_, inl, inr, ⊎-elim, _↔_}
-use mathlib.Core.List.{List}
+use mathlib.Core.Path.{_≡_, refl, sym, _∙_, ap}
+use mathlib.Core.Logic.{_⊎_, ⊎-elim, _↔_}
 use Prim.Native.Nat.{ℕ, zero, suc, _+_, _-_, _≤_, _<_}
 use native.Mathlib.Omega.{arith}
-use lib.ListN.{length, getD}
 use Rattle.lists.proofs.UptoLaws.{below-or-not}
-use Rattle.diagram.specs.Lent.{Lent, options, nodes, domain, layer, asked, width, target, step, walk, end, Allows, Build, AllowsFrom, at-true, along}
+use Rattle.diagram.specs.Lent.{Lent, options, nodes, layer, asked, width, target, step, walk, end, Allows, Build, AllowsFrom, at-true, along}
 use Rattle.diagram.specs.Sound.{Within, Shaped, Permitted, to-false, to-true, to-node, Sound}
 use Rattle.diagram.proofs.ShapedLaws.{layer-within, layers-rise}
 

@@ -2,13 +2,11 @@
 -- and "sound" is answered exactly when the diagram is sound, with its counts. Assumes nothing.
 use mathlib.Core.Path.{_≡_, refl, sym, _∙_, ap}
 use mathlib.Core.Logic.{_↔_}
-use mathlib.Core.List.{List, [], _∷_}
-use Prim.Native.Nat.{ℕ}
 use Rattle.refusal.specs.Rules.{chain}
 use Rattle.refusal.specs.Table.{ExactlyWhen}
 use Rattle.refusal.specs.declared.Refusal.{Refusal}
 use Rattle.refusal.specs.declared.Verdict.the-variants.{Passed, Refused as Refusing}
-use Rattle.refusal.proofs.SaidLaws.{said-refused, said-passed}
+use Rattle.refusal.proofs.SaidLaws.{refused-as, said-passed}
 use Rattle.refusal.proofs.TableLaws.{exactly-when}
 use Rattle.diagram.specs.Lent.{Lent}
 use Rattle.diagram.specs.Sound.{Sound, checkTable}
@@ -21,10 +19,7 @@ use Rattle.diagram.proofs.SoundLaws.{check-faithful, passed-sound, soun
 
 module _ (d : Lent) (answer : CheckAnswer) (promise : CheckPromise d answer) where
   pub answer-refused : (r : Refusal) → (answer .outcome ≡ Refused r) ↔ (chain (checkRules d) ≡ Refusing r)
-  answer-refused r = (
-    (λ e. said-refused (chain (checkRules d)) r _ _ (sym (ap checkSaid e) ∙ promise .says)),
-    (λ e. check-said-once (answer .outcome) (Refused r) (promise .says ∙ rw e)),
-  )
+  answer-refused = refused-as checkSaid check-said-once Refused (λ r. refl) (answer .outcome) (chain (checkRules d)) _ _ (promise .says)
 
   pub answer-sound : {c : Diagram} → answer .outcome ≡ IsSound c → chain (checkRules d) ≡ Passed
   answer-sound e = said-passed (chain (checkRules d)) _ _ _ _ (sym (ap checkSaid e) ∙ promise .says)

@@ -1,26 +1,26 @@
 -- A layer's nodes and edges stand in one stretch, and what its edges may lead to in one range. Assumes nothing.
-use mathlib.Core.Path.{_≡_, refl, sym, _∙_, ap, subst}
+use mathlib.Core.Path.{_≡_, refl, sym, _∙_, ap}
 use mathlib.Core.Bool.{Bool, true, false, not, cond, _&&_, _||_}
-use mathlib.Core.List.{List, [], _∷_}
-use mathlib.Core.Logic.{_⊎_, inl, inr, ⊎-elim}
+use mathlib.Core.List.{List}
+use mathlib.Core.Logic.{_⊎_, ⊎-elim}
 use Prim.Native.Nat.{ℕ, zero, suc, _+_, _-_, _*_, _≤_, _<_}
 use native.Mathlib.Nat.{le-refl}
 use native.Mathlib.Omega.{arith}
 use lib.ListN.{length, getD, take, drop, length-drop}
 use lib.Seq.{length-take-le, getD-take, getD-drop}
 use lib.Dec.{ltb, leb, eqb}
-use borrow.Author.Tests.{lt-ltb, le-ltb, le-leb, lt-leb, eq-eqb, ne-eqb, ltb-true, ltb-false, leb-true, leb-false, eqb-true, eqb-false}
+use borrow.Author.Tests.{lt-ltb, le-ltb, le-leb, lt-leb, eq-eqb, ltb-true, leb-true, leb-false, eqb-true}
 use Rattle.lists.specs.Upto.{sumTo, lastTo}
 use Rattle.lists.specs.First.{first}
 use Rattle.lists.specs.declared.Found.{Found}
-use Rattle.lists.proofs.UptoLaws.{below-or-not, decide, sum-stretch, is-last, last-is, up-to-last}
+use Rattle.lists.proofs.UptoLaws.{below-or-not, sum-stretch, is-last, last-is, up-to-last}
 use Rattle.lists.proofs.FirstLaws.{first-agrees}
-use Rattle.diagram.specs.Lent.{Lent, lent, options, nodes, domain, layer, asked, width, firstEdge, edges, leads, target}
-use Rattle.diagram.specs.Sound.{Within, LayerFits, Shaped}
+use Rattle.diagram.specs.Lent.{Lent, lent, options, nodes, domain, layer, width, firstEdge, leads}
+use Rattle.diagram.specs.Sound.{Shaped}
 use Rattle.diagram.specs.Rules.{permits, owner, badTarget}
 use Rattle.diagram.specs.Range.{NoneAbove, LayerEnd, stray, RangeOf}
 use Rattle.diagram.specs.declared.Range.{Range}
-use Rattle.diagram.proofs.ShapedLaws.{layer-within, layers-rise, edges-more, edges-rise, edges-room}
+use Rattle.diagram.proofs.ShapedLaws.{layer-within, layers-rise, edges-rise}
 
 -- nodes of layers up to i: none yet, and then some more
 pub none-yet : (ls : List ℕ) (from i : ℕ) → from ≤ length ls → NoneAbove ls from i from

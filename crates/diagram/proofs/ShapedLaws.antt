@@ -1,23 +1,21 @@
 -- What the tests of the domains and the layers mean, and what follows once they have passed. Assumes nothing.
-use mathlib.Core.Path.{_≡_, refl, sym, _∙_, ap, subst}
-use mathlib.Core.Bool.{Bool, true, false, not, cond, _||_, true≢false, false≢true}
-use mathlib.Core.List.{List, [], _∷_}
+use mathlib.Core.Path.{_≡_, refl, sym}
+use mathlib.Core.Bool.{Bool, true, false, not, cond, _||_}
+use mathlib.Core.List.{List, []}
 use mathlib.Core.Logic.{_⊎_, inl, inr, ⊎-elim}
-use Prim.Native.Nat.{ℕ, zero, suc, _+_, _-_, _*_, _≤_, _<_}
-use native.Mathlib.Nat.{le-refl, eq-or-lt-of-le, not-suc-le-zero}
+use Prim.Native.Nat.{ℕ, zero, suc, _+_, _-_, _≤_, _<_}
+use native.Mathlib.Nat.{le-refl, eq-or-lt-of-le}
 use native.Mathlib.Numerals.{unary-clauses}
 use native.Mathlib.Omega.{arith}
-use lib.ListN.{length, getD}
 use lib.Dec.{ltb, eqb}
 use borrow.Author.Tests.{ltb-true, ltb-false, eqb-true, eqb-false, ne-eqb, not-true, not-false}
-use Rattle.lists.specs.Upto.{sumTo}
 use Rattle.lists.specs.First.{foundIf, first, FirstFailing}
 use Rattle.lists.proofs.UptoLaws.{sum-none, sum-more, sum-most, sum-rises, sum-room}
 use Rattle.lists.proofs.FirstLaws.{Tests, tests-one, tests-each}
-use Rattle.refusal.specs.Rules.{rule, chain}
+use Rattle.refusal.specs.Rules.{chain}
 use Rattle.refusal.specs.declared.Verdict.the-variants.{Passed}
 use Rattle.refusal.proofs.RulesLaws.{not-due}
-use Rattle.diagram.specs.Lent.{Lent, lent, options, nodes, domain, layer, asked, width, firstEdge, edges}
+use Rattle.diagram.specs.Lent.{Lent, lent, options, nodes, domain, layer, asked, width, firstEdge}
 use Rattle.diagram.specs.Sound.{Within, OptionsFit, DomainFits, NodesFit, LayerFits, Shaped}
 use Rattle.diagram.specs.Range.{Rising}
 use Rattle.diagram.specs.Rules.{outside, breaksRule, badDomain, badLayer, optionRules, nodeRules}
@@ -40,6 +38,9 @@ not-inside low high x e h =
     let a : low ≤ x = h .0 in
     let b : x ≤ high = h .1 in
     ⊎-elim (λ (l : ltb x low ≡ true). omega (arith, ltb-true x low l)) (λ (l : ltb high x ≡ true). omega (arith, ltb-true high x l)) (or-true (ltb x low) (ltb high x) e)
+
+tests-within : (low high x : ℕ) → Tests (foundIf (outside low high x) 0) (λ p. (p ≡ 0) × (Within low high x → ⊥)) (Within low high x)
+tests-within low high x = tests-one (outside low high x) _ (inside low high x) (not-inside low high x)
 
 module _ (d : Lent) where
   layer-good : (v : ℕ) → badLayer d v ≡ false → LayerFits d v
@@ -85,13 +86,13 @@ module _ (d : Lent) where
 
   -- numbers 1 to 4: what each test is for
   pub tests-1 : Tests (foundIf (outside 1 64 (options d)) 0) (λ p. (p ≡ 0) × (OptionsFit d → ⊥)) (OptionsFit d)
-  tests-1 = tests-one (outside 1 64 (options d)) _ (inside 1 64 (options d)) (not-inside 1 64 (options d))
+  tests-1 = tests-within 1 64 (options d)
 
   pub tests-2 : Tests (first (badDomain d) (options d)) (FirstFailing (options d) (DomainFits d)) ((i : ℕ) → i < options d → DomainFits d i)
   tests-2 = tests-each (badDomain d) (DomainFits d) (options d) (λ i _. inside 1 32 (domain d i)) (λ i _. not-inside 1 32 (domain d i))
 
   pub tests-3 : Tests (foundIf (outside 1 4096 (nodes d)) 0) (λ p. (p ≡ 0) × (NodesFit d → ⊥)) (NodesFit d)
-  tests-3 = tests-one (outside 1 4096 (nodes d)) _ (inside 1 4096 (nodes d)) (not-inside 1 4096 (nodes d))
+  tests-3 = tests-within 1 4096 (nodes d)
 
   pub tests-4 : Tests (first (badLayer d) (nodes d)) (FirstFailing (nodes d) (LayerFits d)) ((v : ℕ) → v < nodes d → LayerFits d v)
   tests-4 = tests-each (badLayer d) (LayerFits d) (nodes d) (λ v _. layer-good v) (λ v _. layer-not-good v)

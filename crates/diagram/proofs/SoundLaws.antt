@@ -1,24 +1,21 @@
 -- The rules compute what the table says, and a diagram passes them exactly when it is sound. Assumes nothing.
-use mathlib.Core.Path.{_≡_, refl, sym, _∙_, ap, subst}
+use mathlib.Core.Path.{_≡_, refl, sym, _∙_}
 use mathlib.Core.Bool.{Bool, true, false, not, _&&_, true≢false}
-use mathlib.Core.List.{List, [], _∷_, _++_}
-use mathlib.Core.Logic.{_⊎_, inl, inr, ⊎-elim, _↔_}
-use Prim.Native.Nat.{ℕ, zero, suc, _+_, _-_, _≤_, _<_}
+use mathlib.Core.List.{[], _++_}
+use Prim.Native.Nat.{ℕ, zero, suc, _+_, _-_, _<_}
 use native.Mathlib.Omega.{arith}
 use lib.ListN.{length}
 use lib.Dec.{ltb, eqb}
-use borrow.Author.Tests.{ltb-true, lt-ltb, eqb-true, eqb-false, eq-eqb, not-true, not-false}
-use Rattle.lists.specs.Upto.{sumTo}
+use borrow.Author.Tests.{ltb-true, lt-ltb, eqb-true, eq-eqb, not-true, not-false}
 use Rattle.lists.specs.First.{foundIf, first, FirstFailing}
-use Rattle.lists.specs.declared.Found.the-variants.{Nothing, At}
 use Rattle.lists.proofs.UptoLaws.{sum-split, sum-within}
-use Rattle.lists.proofs.FirstLaws.{Tests, tests-one, tests-each}
-use Rattle.refusal.specs.Rules.{rule, chain}
+use Rattle.lists.proofs.FirstLaws.{Tests, tests-each, tests-equal}
+use Rattle.refusal.specs.Rules.{chain}
 use Rattle.refusal.specs.declared.Verdict.the-variants.{Passed}
 use Rattle.refusal.proofs.RulesLaws.{passed, not-due}
 use Rattle.refusal.proofs.TableLaws.{Faithful}
-use Rattle.diagram.specs.Lent.{Lent, options, nodes, domain, layer, width, firstEdge, edges, leads, target}
-use Rattle.diagram.specs.Sound.{Permitted, to-false, to-true, to-node, TargetFits, Counted, Shaped, Sound, checkTable}
+use Rattle.diagram.specs.Lent.{Lent, options, nodes, layer, width, firstEdge, edges, target}
+use Rattle.diagram.specs.Sound.{Permitted, to-false, to-true, to-node, TargetFits, Counted, Sound, checkTable}
 use Rattle.diagram.specs.Rules.{permits, badTarget, optionRules, nodeRules, targetRules, checkRules}
 use Rattle.diagram.proofs.ShapedLaws.{tests-1, tests-2, tests-3, tests-4, shaped, edges-more}
 use Rattle.diagram.proofs.RangeLaws.{owner-is}
@@ -61,10 +58,7 @@ module _ (d : Lent) where
 
   -- numbers 5 and 6: what each test is for
   tests-5 : Tests (foundIf (not (eqb (length (d .targets)) (edges d))) 0) (λ p. (p ≡ 0) × (Counted d → ⊥)) (Counted d)
-  tests-5 =
-      tests-one (not (eqb (length (d .targets)) (edges d))) _
-      (λ e. eqb-true (length (d .targets)) (edges d) (not-false (eqb (length (d .targets)) (edges d)) e))
-      (λ e. eqb-false (length (d .targets)) (edges d) (not-true (eqb (length (d .targets)) (edges d)) e))
+  tests-5 = tests-equal (length (d .targets)) (edges d)
 
   tests-6 : Tests (first (badTarget d) (edges d)) (FirstFailing (edges d) (TargetFits d)) ((p : ℕ) → p < edges d → TargetFits d p)
   tests-6 = tests-each (badTarget d) (TargetFits d) (edges d) target-good target-not-good

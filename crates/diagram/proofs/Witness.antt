@@ -4,7 +4,6 @@ use mathlib.Core.List.{List, [], _∷_, map}
 use Rattle.lists.specs.Upto.{sumTo, lastTo}
 use Rattle.lists.specs.First.{first}
 use Rattle.refusal.specs.Rules.{refusal, chain}
-use Rattle.refusal.specs.declared.Verdict.{Verdict}
 use Rattle.refusal.specs.declared.Verdict.the-variants.{Passed, Refused}
 use Rattle.diagram.specs.Lent.{Lent, lent, firstEdge}
 use Rattle.diagram.specs.Sound.{Sound}

@@ -1,7 +1,7 @@
 -- What a sound diagram is, and the table of what is refused where it is not one. Assumes nothing.
 use mathlib.Core.Path.{_≡_}
 use mathlib.Core.List.{List, [], _∷_}
-use Prim.Native.Nat.{ℕ, zero, suc, _+_, _-_, _≤_, _<_}
+use Prim.Native.Nat.{ℕ, suc, _+_, _-_, _≤_, _<_}
 use lib.ListN.{length}
 use Rattle.lists.specs.First.{FirstFailing}
 use Rattle.refusal.specs.Table.{Row, row}

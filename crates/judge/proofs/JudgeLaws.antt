@@ -2,23 +2,23 @@
 -- build. Assumes nothing.
 use mathlib.Core.Path.{_≡_, refl, sym, _∙_, ap}
 use mathlib.Core.Bool.{Bool, true, false, not, cond}
-use mathlib.Core.List.{List, [], _∷_, _++_}
+use mathlib.Core.List.{List, [], _∷_}
 use mathlib.Core.Logic.{_↔_}
 use Prim.Native.Nat.{ℕ, _<_}
 use native.Mathlib.Omega.{arith}
 use lib.ListN.{length, getD}
-use lib.Dec.{leb, eqb}
-use borrow.Author.Tests.{leb-true, leb-false, eqb-true, eqb-false, eq-eqb, ne-eqb, not-true, not-false}
+use lib.Dec.{eqb}
+use borrow.Author.Tests.{leb-true, leb-false, eqb-true, eqb-false, eq-eqb, ne-eqb}
 use Rattle.lists.specs.First.{foundIf, first, FirstFailing}
-use Rattle.lists.proofs.FirstLaws.{Tests, tests-one, tests-each}
-use Rattle.refusal.specs.Rules.{rule, chain}
+use Rattle.lists.proofs.FirstLaws.{Tests, tests-each, tests-equal}
+use Rattle.refusal.specs.Rules.{chain}
 use Rattle.refusal.specs.Said.{Said, result, saying}
 use Rattle.refusal.specs.Table.{ExactlyWhen}
 use Rattle.refusal.specs.declared.Refusal.{Refusal}
 use Rattle.refusal.specs.declared.Verdict.{Verdict}
 use Rattle.refusal.specs.declared.Verdict.the-variants.{Passed, Refused as Refusing}
 use Rattle.refusal.proofs.RulesLaws.{refuses, passes, passed, not-due}
-use Rattle.refusal.proofs.SaidLaws.{said-refused, said-passed}
+use Rattle.refusal.proofs.SaidLaws.{refused-as, said-passed}
 use Rattle.refusal.proofs.TableLaws.{Faithful, faithful-append, exactly-when}
 use Rattle.diagram.specs.Lent.{Lent, lent, options, domain, chosen, end, Allows, AllowsFrom}
 use Rattle.diagram.specs.Sound.{Sound, checkTable}
@@ -34,10 +34,7 @@ use Rattle.judge.specs.declared.JudgeAnswer.{JudgeAnswer}
 module _ (d : Lent) (build : List ℕ) where
   -- numbers 8 and 9: what each test is for
   tests-8 : Tests (foundIf (not (eqb (length build) (options d))) 0) (λ p. (p ≡ 0) × (length build ≡ options d → ⊥)) (length build ≡ options d)
-  tests-8 =
-      tests-one (not (eqb (length build) (options d))) _
-      (λ e. eqb-true (length build) (options d) (not-false (eqb (length build) (options d)) e))
-      (λ e. eqb-false (length build) (options d) (not-true (eqb (length build) (options d)) e))
+  tests-8 = tests-equal (length build) (options d)
 
   tests-9 : Tests (first (badValue d build) (options d)) (FirstFailing (options d) (ValueFits d build)) ((i : ℕ) → i < options d → ValueFits d build i)
   tests-9 =
@@ -83,10 +80,7 @@ module _ (d : Lent) (build : List ℕ) where
 
   module _ (answer : JudgeAnswer) (promise : JudgePromise d build answer) where
     refused-exactly : (r : Refusal) → (answer .outcome ≡ Refused r) ↔ (chain (judgeRules d build) ≡ Refusing r)
-    refused-exactly r = (
-      (λ e. said-refused (chain (judgeRules d build)) r _ _ (sym (ap judgeSaid e) ∙ promise .says)),
-      (λ e. judge-said-once (answer .outcome) (Refused r) (promise .says ∙ rw e)),
-    )
+    refused-exactly = refused-as judgeSaid judge-said-once Refused (λ r. refl) (answer .outcome) (chain (judgeRules d build)) _ _ (promise .says)
 
     -- each of the numbers 1 to 6, 8 and 9 is given exactly when its row is due and none before it is
     pub judge-exactly-when : ExactlyWhen (judgeTable d build) (λ r. answer .outcome ≡ Refused r)

@@ -4,7 +4,6 @@ use mathlib.Core.Bool.{Bool, cond}
 use mathlib.Core.List.{List, [], _∷_}
 use Prim.Native.Nat.{ℕ}
 use lib.Dec.{eqb}
-use native.Mathlib.Omega.{arith}
 use Rattle.refusal.specs.Rules.{Rule, chain}
 use Rattle.refusal.specs.Said.{Said, refused, result, saying}
 use Rattle.refusal.proofs.SaidLaws.{refused-one}

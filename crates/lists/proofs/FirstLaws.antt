@@ -1,11 +1,13 @@
 -- Laws of the first index at which a test holds: a loop's three exits, and that the index is the least. Assumes nothing.
 use mathlib.Core.Path.{_≡_, refl, sym, _∙_, ap}
-use mathlib.Core.Bool.{Bool, true, false, cond}
+use mathlib.Core.Bool.{Bool, true, false, not, cond}
 use mathlib.Core.Logic.{_⊎_, inl, inr, ⊎-elim, _↔_}
 use Prim.Native.Nat.{ℕ, zero, suc, _+_, _-_, _≤_, _<_}
 use native.Mathlib.Numerals.{add-one}
 use native.Mathlib.Nat.{not-suc-le-zero}
 use native.Mathlib.Omega.{arith}
+use lib.Dec.{eqb}
+use borrow.Author.Tests.{eqb-true, eqb-false, not-true, not-false}
 use Rattle.lists.specs.Upto.{sumTo, countTo}
 use Rattle.lists.specs.First.{foundIf, orFound, first, FirstFailing}
 use Rattle.lists.specs.declared.Found.{Found}
@@ -182,3 +184,7 @@ tests-one false P good not-good =
       at = λ p. ((λ e. absurd (found-one Nothing refl e)), (λ w. absurd (w .1 (good refl))));
       none = ((λ e. good refl), (λ h. refl));
     }
+
+-- one test of two numbers that have to be equal
+pub tests-equal : (a b : ℕ) → Tests (foundIf (not (eqb a b)) 0) (λ p. (p ≡ 0) × (a ≡ b → ⊥)) (a ≡ b)
+tests-equal a b = tests-one (not (eqb a b)) _ (λ e. eqb-true a b (not-false (eqb a b) e)) (λ e. eqb-false a b (not-true (eqb a b) e))

@@ -1,7 +1,7 @@
 -- Sums, lists and counts built index by index: what a loop that goes from 0 to n - 1 has built when it stands at n.
 -- Assumes nothing.
 use mathlib.Core.Bool.{Bool, cond}
-use mathlib.Core.List.{List, [], _∷_, _++_}
+use mathlib.Core.List.{List, [], _++_}
 use Prim.Native.Nat.{ℕ, zero, suc, _+_}
 
 -- f 0 + f 1 + .. + f (n - 1)

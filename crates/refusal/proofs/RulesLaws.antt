@@ -7,7 +7,7 @@ use native.Mathlib.Omega.{arith}
 use Rattle.lists.specs.First.{foundIf}
 use Rattle.lists.specs.declared.Found.{Found}
 use Rattle.lists.specs.declared.Found.the-variants.{Nothing, At}
-use Rattle.refusal.specs.Rules.{Rule, rule, refusal, ruled, chain}
+use Rattle.refusal.specs.Rules.{Rule, rule, chain}
 use Rattle.refusal.specs.declared.Refusal.{Refusal}
 use Rattle.refusal.specs.declared.Verdict.{Verdict}
 use Rattle.refusal.specs.declared.Verdict.the-variants.{Passed, Refused}

@@ -3,7 +3,6 @@ use mathlib.Core.Path.{_≡_, sym, _∙_, ap}
 use borrow.Author.Needs.{needs}
 use Rattle.refusal.specs.Rules.{chain}
 use Rattle.refusal.proofs.RulesLaws.{refuses, passes, not-due}
-use Rattle.refusal.specs.declared.Verdict.the-variants.{Passed}
 use Rattle.diagram.specs.Lent.{lent}
 use Rattle.diagram.specs.Rules.{optionRules, nodeRules, checkRules}
 use Rattle.diagram.proofs.ShapedLaws.{tests-1, shaped, same-option-rules, same-node-rules}

@@ -1,5 +1,5 @@
 -- `diagram::check_nodes` meets its contract. Assumes nothing.
-use mathlib.Core.Path.{_≡_, sym, _∙_}
+use mathlib.Core.Path.{sym, _∙_}
 use borrow.Author.Needs.{needs}
 use Rattle.refusal.proofs.RulesLaws.{tested, not-tested}
 use Rattle.diagram.specs.Rules.{nodeRules}

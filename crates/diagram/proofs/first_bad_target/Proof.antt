@@ -1,17 +1,16 @@
 -- `diagram::first_bad_target` meets its contract: none before a, the first edge of node v, is bad. Assumes nothing.
 use mathlib.Core.Path.{_≡_, sym, _∙_, ap}
 use mathlib.Core.List.{[]}
-use Prim.Native.Nat.{ℕ, _+_, _≤_, _<_, _-_}
+use Prim.Native.Nat.{ℕ, _+_, _≤_, _-_}
 use native.Mathlib.Omega.{arith}
-use lib.ListN.{length, getD}
+use lib.ListN.{length}
 use borrow.Author.Needs.{needs}
 use Rattle.lists.specs.First.{first}
-use Rattle.lists.specs.declared.Found.the-variants.{Nothing, At}
+use Rattle.lists.specs.declared.Found.the-variants.{Nothing}
 use Rattle.lists.proofs.FirstLaws.{start, done, on-none, on-found, found-least}
 use Rattle.diagram.specs.Lent.{Lent, lent, firstEdge, edges}
 use Rattle.diagram.specs.Sound.{Shaped}
 use Rattle.diagram.specs.Rules.{badTarget}
-use Rattle.diagram.specs.Range.{LayerEnd}
 use Rattle.diagram.proofs.ShapedLaws.{layers-rise, reshaped, same-edges, edges-none, edges-rise, edges-most}
 use Rattle.diagram.proofs.RangeLaws.{moves-on, same-range, part-length, in-stretch}
 use Rattle.diagram.proofs.first_bad_target.Statement.{statement}

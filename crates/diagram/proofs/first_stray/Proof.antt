@@ -1,5 +1,5 @@
 -- `diagram::first_stray` meets its contract: where the count is 0 a search finds nothing. Assumes nothing.
-use mathlib.Core.Path.{_≡_, sym, _∙_}
+use mathlib.Core.Path.{sym, _∙_}
 use borrow.Author.Needs.{needs}
 use Rattle.lists.proofs.FirstLaws.{count-none}
 use Rattle.diagram.proofs.first_stray.Statement.{statement}

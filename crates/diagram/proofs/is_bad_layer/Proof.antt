@@ -1,5 +1,4 @@
 -- `diagram::is_bad_layer` meets its contract. Assumes nothing.
-use native.Mathlib.Omega.{arith}
 use borrow.Author.Needs.{needs}
 use borrow.Author.Tests.{eq-eqb, ne-eqb}
 use Rattle.diagram.specs.Rules.{badLayer}

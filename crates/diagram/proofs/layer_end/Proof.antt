@@ -4,7 +4,7 @@ use Prim.Native.Nat.{_+_, _-_}
 use native.Mathlib.Omega.{arith}
 use lib.ListN.{length}
 use borrow.Author.Needs.{needs}
-use Rattle.diagram.specs.Range.{NoneAbove, LayerEnd}
+use Rattle.diagram.specs.Range.{NoneAbove}
 use Rattle.diagram.proofs.RangeLaws.{some-more}
 use Rattle.diagram.proofs.layer_end.Statement.{statement}
 use Rattle.diagram.proofs.layer_end.Tie as tie

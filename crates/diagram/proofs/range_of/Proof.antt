@@ -1,9 +1,8 @@
 -- `diagram::range_of` meets its contract: the next layer's nodes are the range. Assumes nothing.
-use mathlib.Core.Path.{_≡_, refl}
+use mathlib.Core.Path.{refl}
 use mathlib.Core.List.{[]}
 use Prim.Native.Nat.{_-_}
 use native.Mathlib.Omega.{arith}
-use lib.ListN.{length, getD}
 use borrow.Author.Needs.{needs}
 use Rattle.diagram.specs.Lent.{Lent, lent}
 use Rattle.diagram.proofs.ShapedLaws.{layer-within, layers-rise}

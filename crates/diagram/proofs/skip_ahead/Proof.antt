@@ -2,7 +2,6 @@
 use Prim.Native.Nat.{_+_, _-_}
 use native.Mathlib.Omega.{arith}
 use lib.ListN.{length}
-use borrow.Author.Needs.{needs}
 use Rattle.diagram.specs.Range.{NoneAbove}
 use Rattle.diagram.proofs.RangeLaws.{none-yet, some-more}
 use Rattle.diagram.proofs.skip_ahead.Statement.{statement}

@@ -1,9 +1,9 @@
 -- `diagram::value_count` meets its contract: n is the sum of the domains below i. Assumes nothing.
 use mathlib.Core.Path.{_≡_, sym}
 use mathlib.Core.List.{[]}
-use Prim.Native.Nat.{ℕ, _≤_, _-_}
+use Prim.Native.Nat.{_≤_, _-_}
 use native.Mathlib.Omega.{arith}
-use lib.ListN.{length, getD}
+use lib.ListN.{length}
 use borrow.Author.Needs.{needs}
 use Rattle.lists.specs.Upto.{sumTo}
 use Rattle.lists.proofs.UptoLaws.{sum-none, sum-more, sum-most}

@@ -3,8 +3,7 @@ use mathlib.Core.Path.{_≡_, _∙_, sym, ap}
 use mathlib.Core.List.{[]}
 use Prim.Native.Nat.{ℕ, _+_, _≤_, _<_, _-_}
 use native.Mathlib.Omega.{arith}
-use lib.ListN.{length, getD}
-use borrow.Author.Needs.{needs}
+use lib.ListN.{length}
 use Rattle.diagram.specs.Lent.{Lent, lent, layer, asked, width, firstEdge}
 use Rattle.diagram.specs.Sound.{Within}
 use Rattle.diagram.proofs.ShapedLaws.{layer-within, edges-more, edges-most}

@@ -4,14 +4,13 @@ use mathlib.Core.List.{[]}
 use Prim.Native.Nat.{ℕ, suc, _+_, _≤_, _<_, _-_}
 use native.Mathlib.Nat.{le-refl}
 use native.Mathlib.Omega.{arith}
-use lib.ListN.{length, getD}
+use lib.ListN.{length}
 use lib.Dec.{eqb}
 use borrow.Author.Needs.{needs}
-use Rattle.diagram.specs.Lent.{Lent, lent, nodes, domain, layer, asked, width, firstEdge, leads, target, chosen, end, Build}
+use Rattle.diagram.specs.Lent.{Lent, lent, nodes, layer, asked, width, firstEdge, leads, target, chosen, end}
 use Rattle.diagram.specs.Sound.{Within, Sound}
 use Rattle.diagram.proofs.ShapedLaws.{layer-within, edges-none, edges-room, edges-most, reshaped, same-edges}
 use Rattle.diagram.proofs.AllowsLaws.{Ranked, sound-ranked, later-node, later-is, end-of-end, next-later, end-step}
-use Rattle.judge.specs.Build.{Fits}
 use Rattle.judge.proofs.walks_to_true.Statement.{statement}
 use Rattle.judge.proofs.walks_to_true.Tie as tie
 
