@@ -6,16 +6,9 @@ use mathlib.Core.Bool.{Bool, true, false, not, false≢true}
 use mathlib.Core.List.{List, [], _∷_, List·Memᴰ, List·Memᴰ·head, List·Memᴰ·tail}
 use Prim.Native.Nat.{ℕ, zero, suc}
 use lib.IntN.{ℤ, pos, negsuc, negℤ, ℤ-discrete}
+use Rattle.lists.specs.Every.{Each}
+use Rattle.lists.proofs.EveryLaws.{each-every}
 use Rattle.cnf.specs.Clause.{Clause, Setting, says, holds, Held, Satisfies, Reached, given, unit, Conflict}
-
--- P holds of each entry: of a list that is written out, this computes to pairs, the last with tt
-abbrev pub Each : {A : Type 0} → (A → Type 0) → List A → Type 0
-Each P [] = Unit {0}
-Each P (x ∷ xs) = P x × Each P xs
-
-pub each-mem : {A : Type 0} (P : A → Type 0) (xs : List A) → Each P xs → (a : A) → List·Memᴰ a xs → P a
-each-mem P (x ∷ xs) e a (List·Memᴰ·head q) = subst P (sym q) (e .0)
-each-mem P (x ∷ xs) e a (List·Memᴰ·tail m) = each-mem P xs (e .1) a m
 
 -- ---- literals under a setting
 
@@ -47,7 +40,7 @@ module _ (σ : Setting) where
 module _ {Given : ℤ → Type 0} {cs : List Clause} where
   -- a literal of a clause of which each other one is ruled out
   pub unit-each : (c : Clause) {l : ℤ} → List·Memᴰ c cs → List·Memᴰ l c → Each (λ m. (m ≡ l) ⊎ Reached Given cs (negℤ m)) c → Reached Given cs l
-  unit-each c {l} mc ml e = unit c mc ml (λ m mm ne. ⊎-elim (λ (q : m ≡ l). absurd (ne q)) (λ r. r) (each-mem (λ m. (m ≡ l) ⊎ Reached Given cs (negℤ m)) c e m mm))
+  unit-each c {l} mc ml e = unit c mc ml (λ m mm ne. ⊎-elim (λ (q : m ≡ l). absurd (ne q)) (λ r. r) (each-every (λ m. (m ≡ l) ⊎ Reached Given cs (negℤ m)) c e m mm))
 
   -- a setting that satisfies the clauses and has the given literals
   module _ (σ : Setting) (sat : Satisfies σ cs) (has : (l : ℤ) → Given l → holds σ l ≡ true) where

@@ -84,37 +84,6 @@ unfolding words
 in-words (List·Memᴰ·head {x = d} {xs = cs} e) m = Memᴰ·append-left (pos 0 ∷ words cs) (subst (List·Memᴰ _) e m)
 in-words (List·Memᴰ·tail {x = d} m′) m = Memᴰ·append-right d (List·Memᴰ·tail (in-words m′ m))
 
--- ---- clauses without a 0
-
-pub is-no-zero : (u : ℕ) → isZero (is u) ≡ false
-unfolding isZero
-is-no-zero u = refl
-
-pub isnt-no-zero : (u : ℕ) → isZero (isnt u) ≡ false
-unfolding isZero
-isnt-no-zero u = refl
-
-pub no-zero-more : {l : ℤ} {c : Clause} → isZero l ≡ false → NoZero c → NoZero (l ∷ c)
-no-zero-more e g m (List·Memᴰ·head q) = ap isZero q ∙ e
-no-zero-more e g m (List·Memᴰ·tail t) = g m t
-
-pub no-zeros-none : NoZeros []
-no-zeros-none c m = absurd (List·Memᴰ·not-nil m)
-
-pub no-zeros-more : {c : Clause} {cs : List Clause} → NoZero c → NoZeros cs → NoZeros (c ∷ cs)
-no-zeros-more e g d (List·Memᴰ·head q) = subst NoZero (sym q) e
-no-zeros-more e g d (List·Memᴰ·tail t) = g d t
-
-pub no-zeros-both : (cs : List Clause) {ds : List Clause} → NoZeros cs → NoZeros ds → NoZeros (cs ++ ds)
-no-zeros-both cs {ds} g h c m = go (List·Memᴰ·append-cases cs m)
-  where
-    go : List·Memᴰ c cs ⊎ List·Memᴰ c ds → NoZero c
-    go (inl l) = g c l
-    go (inr l) = h c l
-
-pub no-zeros-upTo : (n : ℕ) (f : ℕ → List Clause) → ((k : ℕ) → k < n → NoZeros (f k)) → NoZeros (upTo n f)
-no-zeros-upTo n f g c m = let t = of-list f n m in g (t .0) (t .1) c (t .2)
-
 -- ---- the clauses of a word list, word by word
 
 pub of-zero : (ws : List ℤ) → clausesOf (pos 0 ∷ ws) ≡ [] ∷ clausesOf ws

@@ -10,7 +10,14 @@ use lib.IntN.{ℤ, pos, negsuc, negℤ}
 abbrev pub Clause : Type 0
 Clause = List ℤ
 
--- the variable of slot u, and its negation
+-- the literal of the variable with the number n, and its negation
+abbrev pub plain : ℕ → ℤ
+plain n = pos n
+
+abbrev pub negated : ℕ → ℤ
+negated n = negℤ (pos n)
+
+-- the same by its slot: `plain (suc u)` and `negated (suc u)`
 abbrev pub is : ℕ → ℤ
 is u = pos (suc u)
 

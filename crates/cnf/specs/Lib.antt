@@ -1,2 +1,3 @@
 pub mod Clause
 pub mod Words
+pub mod Tally

@@ -1,9 +1,10 @@
 -- A word list read as clauses: every 0 closes one. Assumes nothing.
 use mathlib.Core.Path.{_≡_}
 use mathlib.Core.Bool.{Bool, true, false, cond}
-use mathlib.Core.List.{List, [], _∷_, List·Memᴰ}
+use mathlib.Core.List.{List, [], _∷_}
 use Prim.Native.Nat.{ℕ, _+_}
 use lib.IntN.{ℤ}
+use Rattle.lists.specs.Every.{Every}
 use Rattle.lists.specs.Signed.{isZero}
 use Rattle.cnf.specs.Clause.{Clause}
 
@@ -31,7 +32,7 @@ closed (w ∷ v ∷ ws) = closed (v ∷ ws)
 
 -- no literal of the clause is 0; and so of each clause
 abbrev pub NoZero : Clause → Type 0
-NoZero c = (l : ℤ) → List·Memᴰ l c → isZero l ≡ false
+NoZero = Every (λ l. isZero l ≡ false)
 
 abbrev pub NoZeros : List Clause → Type 0
-NoZeros cs = (c : Clause) → List·Memᴰ c cs → NoZero c
+NoZeros = Every NoZero

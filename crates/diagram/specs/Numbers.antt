@@ -1,17 +1,20 @@
--- The variables' numbers, from a diagram's counts: D values, s nodes, E edges. Assumes nothing.
-use Prim.Native.Nat.{ℕ, _+_}
+-- The variables' numbers, from a diagram's counts: D values, s nodes, E edges. Each is the successor of a sum, so that no
+-- variable has the number 0. Assumes nothing.
+use Prim.Native.Nat.{ℕ, suc, _+_}
 use Rattle.lists.specs.Upto.{sumTo}
 use Rattle.diagram.specs.Lent.{Lent, options, nodes, domain, firstEdge, edges}
 
--- option i has value j, where the options before it have `before` values together
+-- option i has value j, where the options before it have `before` values together: 1 + before + j
 abbrev pub valueNumber : ℕ → ℕ → ℕ
-valueNumber before j = 1 + before + j
+valueNumber before j = suc (before + j)
 
+-- reference r: D + 1 + r
 abbrev pub referenceNumber : ℕ → ℕ → ℕ
-referenceNumber D r = D + 1 + r
+referenceNumber D r = suc (D + r)
 
+-- edge e, counted from 0: D + s + 3 + e
 abbrev pub edgeNumber : ℕ → ℕ → ℕ → ℕ
-edgeNumber D s e = D + s + 3 + e
+edgeNumber D s e = suc (D + s + 2 + e)
 
 -- V: the last variable's number
 abbrev pub lastNumber : ℕ → ℕ → ℕ → ℕ

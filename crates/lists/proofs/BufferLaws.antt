@@ -85,6 +85,10 @@ module _ {A : Type 0} {l l₁ xs : List A} {at r₁ : ℕ} (a : Wrote l at xs l�
   pub then-room : (ys : List A) → at + length (xs ++ ys) ≤ length l → r₁ + length ys ≤ length l₁
   then-room ys h = omega (arith, length-append xs ys, kept)
 
+  -- the same words, said in another way
+  pub wrote-as : {ys : List A} → xs ≡ ys → Wrote l at ys l₁ r₁
+  wrote-as e = rw e at a
+
   -- what was written is told by what it was written into
   pub wrote-same : {l₂ : List A} {r₂ : ℕ} → Wrote l at xs l₂ r₂ → (l₁ ≡ l₂) × (r₁ ≡ r₂)
   wrote-same b = (a .list ∙ sym (b .list), a .next ∙ sym (b .next))

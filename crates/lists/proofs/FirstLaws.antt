@@ -6,8 +6,8 @@ use Prim.Native.Nat.{ℕ, zero, suc, _+_, _-_, _≤_, _<_}
 use native.Mathlib.Numerals.{add-one}
 use native.Mathlib.Nat.{not-suc-le-zero}
 use native.Mathlib.Omega.{arith}
-use lib.Dec.{eqb}
-use borrow.Author.Tests.{eqb-true, eqb-false, not-true, not-false}
+use lib.Dec.{ltb, eqb}
+use borrow.Author.Tests.{ltb-true, ltb-false, eqb-true, eqb-false, not-true, not-false}
 use Rattle.lists.specs.Upto.{sumTo, countTo}
 use Rattle.lists.specs.First.{foundIf, orFound, first, FirstFailing}
 use Rattle.lists.specs.declared.Found.{Found}
@@ -172,19 +172,26 @@ module _ (bad : ℕ → Bool) (P : ℕ → Type 0) (n : ℕ) (good : (k : ℕ) �
         none = ((λ e k h. good k h (none-bad bad n e k h)), (λ g. bad-none bad n (λ k h. holds k h (g k h))));
       }
 
--- one test, due at place 0 where a condition fails
-pub tests-one : (bad : Bool) (P : Type 0) → (bad ≡ false → P) → (bad ≡ true → P → ⊥) → Tests (foundIf bad 0) (λ p. (p ≡ 0) × (P → ⊥)) P
-tests-one true P good not-good =
+-- one test, due at a given place where a condition fails
+tests-at : (place : ℕ) (bad : Bool) (P : Type 0) → (bad ≡ false → P) → (bad ≡ true → P → ⊥) → Tests (foundIf bad place) (λ p. (p ≡ place) × (P → ⊥)) P
+tests-at place true P good not-good =
     record {
-      at = λ p. ((λ e. (if-at true 0 p e .1, not-good refl)), (λ w. ap At (sym (w .0))));
-      none = ((λ e. absurd (found-one (At 0) e refl)), (λ h. absurd (not-good refl h)));
+      at = λ p. ((λ e. (if-at true place p e .1, not-good refl)), (λ w. ap At (sym (w .0))));
+      none = ((λ e. absurd (found-one (At place) e refl)), (λ h. absurd (not-good refl h)));
     }
-tests-one false P good not-good =
+tests-at place false P good not-good =
     record {
       at = λ p. ((λ e. absurd (found-one Nothing refl e)), (λ w. absurd (w .1 (good refl))));
       none = ((λ e. good refl), (λ h. refl));
     }
 
+pub tests-one : (bad : Bool) (P : Type 0) → (bad ≡ false → P) → (bad ≡ true → P → ⊥) → Tests (foundIf bad 0) (λ p. (p ≡ 0) × (P → ⊥)) P
+tests-one = tests-at 0
+
 -- one test of two numbers that have to be equal
 pub tests-equal : (a b : ℕ) → Tests (foundIf (not (eqb a b)) 0) (λ p. (p ≡ 0) × (a ≡ b → ⊥)) (a ≡ b)
 tests-equal a b = tests-one (not (eqb a b)) _ (λ e. eqb-true a b (not-false (eqb a b) e)) (λ e. eqb-false a b (not-true (eqb a b) e))
+
+-- one test of a buffer's length against the length needed, which is the place
+pub tests-room : (room needed : ℕ) → Tests (foundIf (ltb room needed) needed) (λ p. (p ≡ needed) × (needed ≤ room → ⊥)) (needed ≤ room)
+tests-room room needed = tests-at needed (ltb room needed) (needed ≤ room) (λ e. ltb-false room needed e) (λ e h. omega (arith, ltb-true room needed e))

@@ -1,4 +1,5 @@
 pub mod UptoLaws
+pub mod EveryLaws
 pub mod FirstLaws
 pub mod BufferLaws
 pub mod SignedLaws

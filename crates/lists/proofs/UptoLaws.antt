@@ -2,7 +2,7 @@
 use mathlib.Core.Path.{_≡_, refl, sym, _∙_, ap, subst}
 use mathlib.Core.Logic.{_⊎_, inl, inr, ⊎-elim}
 use mathlib.Core.Bool.{Bool, true, false, cond, true≢false}
-use mathlib.Core.List.{List, [], _++_, List·Memᴰ, List·Memᴰ·not-nil, List·Memᴰ·append-cases, Memᴰ·append-left, Memᴰ·append-right}
+use mathlib.Core.List.{List, [], _∷_, _++_, List·Memᴰ, List·Memᴰ·not-nil, List·Memᴰ·append-cases, Memᴰ·append-left, Memᴰ·append-right}
 use Prim.Native.Nat.{ℕ, zero, suc, _+_, _-_, _*_, _≤_, _<_}
 use native.Mathlib.Nat.{eq-or-lt-of-le, not-suc-le-zero, add-zero, mul-suc, suc-mul}
 use native.Mathlib.Decide.{decLt}
@@ -79,6 +79,23 @@ module _ (f : ℕ → ℕ) where
       go (inl l) r = let t = r l in let h : t .0 < n = t .2 in (t .0, t .1, omega arith, t .3, t .4)
       go (inr l) r = (n, u - sumTo n f, omega arith, omega arith, omega arith)
 
+pub sum-same : (f g : ℕ → ℕ) (n : ℕ) → ((k : ℕ) → k < n → f k ≡ g k) → sumTo n f ≡ sumTo n g
+unfolding sumTo
+sum-same f g zero h = refl
+sum-same f g (suc n) h = rw (sum-same f g n (λ k l. h k (omega arith)), h n (omega arith))
+
+-- equal terms
+pub sum-const : (c n : ℕ) → sumTo n (λ k. c) ≡ c * n
+unfolding sumTo
+sum-const c zero = omega arith
+sum-const c (suc n) = rw (sum-const c n, mul-suc) (omega arith)
+
+-- a + b f k, summed
+pub sum-linear : (a b : ℕ) (f : ℕ → ℕ) (n : ℕ) → sumTo n (λ k. a + b * f k) ≡ a * n + b * sumTo n f
+unfolding sumTo
+sum-linear a b f zero = omega arith
+sum-linear a b f (suc n) = rw (sum-linear a b f n, mul-suc) (omega arith)
+
 -- ---- lists
 
 module _ {ℓ} {A : Type ℓ} (f : ℕ → List A) where
@@ -95,6 +112,16 @@ module _ {ℓ} {A : Type ℓ} (f : ℕ → List A) where
   unfolding upTo sumTo
   list-length zero = refl
   list-length (suc n) = length-append (upTo n f) (f n) ∙ rw (list-length n)
+
+-- one entry at each index
+pub list-singles {ℓ} : {A : Type ℓ} (n : ℕ) (f : ℕ → A) → length (upTo n (λ k. f k ∷ [])) ≡ n
+list-singles n f = list-length (λ k. f k ∷ []) n ∙ sum-const 1 n ∙ omega arith
+
+-- the same at each index
+pub list-same {ℓ} : {A : Type ℓ} (f g : ℕ → List A) (n : ℕ) → ((k : ℕ) → k < n → f k ≡ g k) → upTo n f ≡ upTo n g
+unfolding upTo
+list-same f g zero h = refl
+list-same f g (suc n) h = rw (list-same f g n (λ k l. h k (omega arith)), h n (omega arith))
 
 module _ {A : Type 0} (f : ℕ → List A) {a : A} where
   pub in-list : (n i : ℕ) → i < n → List·Memᴰ a (f i) → List·Memᴰ a (upTo n f)

@@ -1,4 +1,5 @@
 pub mod Upto
+pub mod Every
 pub mod First
 pub mod Buffer
 pub mod Signed

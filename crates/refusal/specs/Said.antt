@@ -21,3 +21,8 @@ result vs = record { number = 0; place = 0; values = vs }
 abbrev pub saying : Verdict → List ℕ → Said
 saying Passed vs = result vs
 saying (Refused r) vs = refused r
+
+-- what a lent buffer holds afterwards: what is written where the verdict passed, and otherwise what it held before
+abbrev pub leaving : {A : Type 0} → Verdict → A → A → A
+leaving Passed written before = written
+leaving (Refused r) written before = before

@@ -1,0 +1,57 @@
+-- Demand 2 holds: of whatever `encode` promises, the list; of every diagram as it is lent the counts and the table of
+-- variables; of every sound one the maxima and that its words are well formed; and one has as many as there can be.
+-- Assumes nothing.
+use mathlib.Core.Path.{_≡_, refl, _∙_, ap}
+use mathlib.Core.List.{List}
+use Prim.Native.Nat.{ℕ, _+_, _-_, _*_, _/_, _≤_}
+use native.Mathlib.Nat.{mul-assoc}
+use native.Mathlib.Omega.{arith}
+use lib.ListN.{length}
+use lib.IntN.{ℤ}
+use Rattle.lists.proofs.UptoLaws.{sum-same}
+use Rattle.diagram.specs.Lent.{Lent, options, nodes, domain, firstEdge, edges}
+use Rattle.diagram.specs.Numbers.{firstValue}
+use Rattle.diagram.specs.Sound.{Sound}
+use Rattle.encoder.specs.Clauses.{edition1, wordList}
+use Rattle.encoder.specs.Counts.{pairCount}
+use Rattle.encoder.specs.Promise.{ownTally, EncodePromise}
+use Rattle.encoder.specs.declared.EncodeAnswer.{EncodeAnswer}
+use Rattle.encoder.proofs.CountLaws.{pair-twice, clause-count, word-count, last-variable, clauses-most, words-most, variables-most}
+use Rattle.encoder.proofs.LiteralLaws.{literal-within, closed-list, zeros-list, clauses-back, word-within}
+use Rattle.encoder.proofs.EncodeLaws.{written-exactly, written-list}
+use Rattle.demands.specs.Demand2.{Encoded, Counts, Numbers, Maxima, Attains, largest, WellFormed}
+use Rattle.demands.proofs.Flat.{Flat, flat-sound, flat-clauses, flat-words, flat-variables}
+
+pub exactly-the-list : (d : Lent) (before : List ℤ) (answer : EncodeAnswer) (after : List ℤ) → EncodePromise edition1 d before answer after → Sound d → length (wordList edition1 d) ≤ length before → Encoded d before answer after
+exactly-the-list d before answer after p s h =
+    let w = written-exactly edition1 d before answer after p (ownTally edition1 d) .1 ((s, h), refl) in
+    let l = written-list edition1 d before answer after p (ownTally edition1 d) w in
+    record { answered = w; the-words = l .0; the-rest = l .1 }
+
+thrice : (k : ℕ) → 3 * pairCount k ≡ 3 * k * (k - 1) / 2
+thrice k = rw (mul-assoc 3 k (k - 1)) (omega (arith, pair-twice k))
+
+pub counts : (d : Lent) → Counts d
+unfolding firstValue firstEdge
+counts d =
+    record {
+      last-variable = last-variable d;
+      clause-count = clause-count d;
+      word-count = word-count d ∙ ap (λ (n : ℕ). 6 + 2 * nodes d + 14 * edges d + n) (sum-same _ _ (options d) (λ i h. omega (arith, thrice (domain d i))));
+    }
+
+pub numbers : (d : Lent) → Numbers d
+unfolding firstValue firstEdge
+numbers d = record { value = λ i j. omega arith; reference = λ r. omega arith; edge = λ v j. omega arith }
+
+pub maxima : (d : Lent) → Sound d → Maxima d
+maxima d s = record { few-clauses = clauses-most d (s .shaped); few-words = words-most d (s .shaped); few-variables = variables-most d (s .shaped) }
+
+pub well-formed : (d : Lent) → Sound d → WellFormed d
+well-formed d s = record { literals = literal-within d s; words = word-within d s; all-closed = closed-list d; one-zero-each = zeros-list d s; told-back = clauses-back d s }
+
+pub attained : Attains largest
+unfolding largest
+attained =
+    let fits : Flat 64 32 4095 131072 = record { few-options = (omega arith, omega arith); few-values = (omega arith, omega arith); few-nodes = omega arith; all-edges = refl } in
+    record { sound = flat-sound fits; all-clauses = flat-clauses fits; all-words = flat-words fits; all-variables = flat-variables fits }

@@ -1,0 +1,3 @@
+pub mod Flat
+pub mod Demand2
+pub mod Samples

@@ -1,0 +1,16 @@
+-- Every entry of the small table of samples holds. Assumes nothing.
+use mathlib.Core.Path.{refl}
+use Rattle.lists.specs.Upto.{sumTo, upTo, lastTo}
+use Rattle.lists.specs.Every.{Each}
+use Rattle.lists.specs.First.{first}
+use Rattle.refusal.specs.Rules.{chain}
+use Rattle.cnf.specs.Clause.{words}
+use Rattle.diagram.specs.Lent.{firstEdge, step, walk}
+use Rattle.diagram.specs.Numbers.{firstValue}
+use Rattle.diagram.specs.Rules.{badLayer, permits, owner, badTarget, optionRules, nodeRules, targetRules, checkRules}
+use Rattle.encoder.specs.Clauses.{firstHelper, clauses, wordList}
+use Rattle.demands.specs.Samples.{Holds, samples}
+
+pub samples-hold : Each Holds samples
+unfolding sumTo upTo lastTo first chain words firstEdge step walk firstValue badLayer permits owner badTarget optionRules nodeRules targetRules checkRules firstHelper clauses wordList samples
+samples-hold = (refl, ((refl, refl, refl), ((refl, refl, refl), ((refl, refl, refl), (refl, (refl, (refl, (refl, (refl, (refl, tt))))))))))

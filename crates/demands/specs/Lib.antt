@@ -1,0 +1,2 @@
+pub mod Demand2
+pub mod Samples

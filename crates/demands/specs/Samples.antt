@@ -1,0 +1,85 @@
+-- The small table of samples: what the definitions say of a few diagrams. Assumes nothing.
+use mathlib.Core.Path.{_≡_}
+use mathlib.Core.Bool.{Bool, true, false}
+use mathlib.Core.List.{List, [], _∷_}
+use Prim.Native.Nat.{ℕ}
+use lib.IntN.{ℤ, pos}
+use lib.ListN.{length, replicate}
+use Rattle.refusal.specs.Rules.{refusal, chain}
+use Rattle.refusal.specs.declared.Verdict.the-variants.{Passed, Refused}
+use Rattle.cnf.specs.Clause.{plain, negated}
+use Rattle.diagram.specs.Lent.{Lent, lent}
+use Rattle.diagram.specs.Rules.{checkRules}
+use Rattle.judge.specs.Promise.{allowsTest}
+use Rattle.encoder.specs.Clauses.{edition1, lastVariable, clauses, wordList}
+
+pub data Sample : Type 0 where
+  -- the diagram's words are these
+  lists : Lent → List ℤ → Sample
+  -- so many words, so many clauses, and V
+  counts : Lent → ℕ → ℕ → ℕ → Sample
+  -- whether the diagram allows the build
+  allows : Lent → List ℕ → Bool → Sample
+  -- it is refused, by this number and with this place
+  refused : Lent → ℕ → ℕ → Sample
+  -- it is not refused
+  passes : Lent → Sample
+
+abbrev pub Holds : Sample → Type 0
+Holds (lists d ws) = wordList edition1 d ≡ ws
+Holds (counts d w c v) = (length (wordList edition1 d) ≡ w) × (length (clauses edition1 d) ≡ c) × (lastVariable edition1 d ≡ v)
+Holds (allows d build a) = allowsTest d build ≡ a
+Holds (refused d n p) = chain (checkRules d) ≡ Refused (refusal n p)
+Holds (passes d) = chain (checkRules d) ≡ Passed
+
+abbrev pub s1 : Lent
+s1 = lent (2 ∷ []) (1 ∷ []) (0 ∷ 1 ∷ [])
+
+abbrev pub s2 : Lent
+s2 = lent (1 ∷ []) (1 ∷ []) (1 ∷ [])
+
+abbrev pub s3 : Lent
+s3 = lent (2 ∷ 2 ∷ []) (1 ∷ 2 ∷ []) (3 ∷ 0 ∷ 0 ∷ 1 ∷ [])
+
+-- S3 with other targets, and with other domains
+abbrev pub s5 : List ℕ → Lent
+s5 ts = lent (s3 .domains) (s3 .layers) ts
+
+abbrev pub s6 : List ℕ → Lent
+s6 ds = lent ds (s3 .layers) (s3 .targets)
+
+-- one option of k values, each of which leads to T
+abbrev pub fan : ℕ → Lent
+fan k = lent (k ∷ []) (1 ∷ []) (replicate k 1)
+
+abbrev pub s1Words : List ℤ
+s1Words =
+    plain 1 ∷ plain 2 ∷ pos 0
+    ∷ negated 1 ∷ negated 2 ∷ pos 0
+    ∷ plain 4 ∷ pos 0
+    ∷ negated 3 ∷ pos 0
+    ∷ plain 5 ∷ pos 0
+    ∷ negated 5 ∷ plain 6 ∷ plain 7 ∷ pos 0
+    ∷ negated 6 ∷ plain 5 ∷ pos 0
+    ∷ negated 6 ∷ plain 3 ∷ pos 0
+    ∷ negated 6 ∷ plain 1 ∷ pos 0
+    ∷ negated 3 ∷ negated 1 ∷ plain 6 ∷ pos 0
+    ∷ negated 7 ∷ plain 5 ∷ pos 0
+    ∷ negated 7 ∷ plain 4 ∷ pos 0
+    ∷ negated 7 ∷ plain 2 ∷ pos 0
+    ∷ negated 4 ∷ negated 2 ∷ plain 7 ∷ pos 0
+    ∷ []
+
+unfoldable pub samples : List Sample
+samples =
+    lists s1 s1Words
+    ∷ counts s1 42 14 7
+    ∷ counts s2 24 9 5
+    ∷ counts s3 78 25 12
+    ∷ allows s3 (0 ∷ 1 ∷ []) true
+    ∷ allows s3 (1 ∷ 1 ∷ []) false
+    ∷ refused (s5 (1 ∷ 0 ∷ 0 ∷ 1 ∷ [])) 6 0
+    ∷ refused (s6 (2 ∷ 0 ∷ [])) 2 1
+    ∷ refused (fan 33) 2 0
+    ∷ passes (fan 32)
+    ∷ []

@@ -1,0 +1,1 @@
+// The demands as theorems (proofs/), over definitions (specs/): to be read first. Assumes nothing.

@@ -1,0 +1,139 @@
+-- How long the pieces are that the emitters write, and the same clauses said by other numbers. Assumes nothing.
+use mathlib.Core.Path.{_≡_, refl, sym, _∙_, ap}
+use mathlib.Core.List.{List, [], _∷_, _++_}
+use Prim.Native.Nat.{ℕ, suc, _+_, _-_, _≤_, _<_}
+use native.Mathlib.Nat.{le-refl}
+use native.Mathlib.Omega.{arith}
+use lib.ListN.{length, getD, take, drop, length-drop}
+use lib.Seq.{length-take-le, getD-take, getD-drop}
+use lib.IntN.{ℤ, pos}
+use Rattle.lists.specs.Upto.{upTo}
+use Rattle.lists.proofs.UptoLaws.{list-same, list-singles}
+use Rattle.lists.specs.Buffer.{Wrote}
+use Rattle.lists.proofs.BufferLaws.{wrote-as}
+use Rattle.cnf.specs.Clause.{Clause, plain, negated, words}
+use Rattle.cnf.proofs.WordsLaws.{words-none, words-one, words-append, words-upTo, length-more}
+use Rattle.diagram.specs.Lent.{Lent, lent, options, nodes, asked, width, firstEdge, leads, target}
+use Rattle.diagram.specs.Sound.{Sound}
+use Rattle.diagram.specs.Numbers.{valueNumber, referenceNumber, edgeNumber, firstValue, values, valueVariable, referenceVariable}
+use Rattle.diagram.proofs.ShapedLaws.{asked-in, edges-room, edges-most}
+use Rattle.diagram.proofs.NumberLaws.{values-room, values-most, target-most}
+use Rattle.encoder.specs.Clauses.{oneOf, allValues, pair, edition1, optionOf, ends, edgeClauses, t1, nodeClauses, nodeOf, clauses, wordList}
+use Rattle.encoder.specs.Emit.{lentEdge, lentNode, Small}
+
+-- ---- lengths
+
+pub run-length : (f : ℕ → ℕ) (k : ℕ) → length (oneOf f k) ≡ k
+run-length f k = list-singles k (λ j. plain (f j))
+
+pub edge-length : (e v m x : ℕ) → length (words (edgeClauses e v m x)) ≡ 13
+unfolding words
+edge-length e v m x = refl
+
+pub t1-length : (v : ℕ) (e : ℕ → ℕ) (k : ℕ) → length (words (t1 v e k ∷ [])) ≡ k + 2
+t1-length v e k = omega (arith, length-more (t1 v e k) [], ap length words-none, run-length e k)
+
+-- ---- other numbers
+
+pub run-same : (f g : ℕ → ℕ) (k : ℕ) → ((j : ℕ) → f j ≡ g j) → oneOf f k ≡ oneOf g k
+run-same f g k h = list-same (λ j. plain (f j) ∷ []) (λ j. plain (g j) ∷ []) k (λ j l. ap (λ (n : ℕ). plain n ∷ []) (h j))
+
+pub edge-same : (v : ℕ) {e m x e′ m′ x′ : ℕ} → e ≡ e′ → m ≡ m′ → x ≡ x′ → words (edgeClauses e v m x) ≡ words (edgeClauses e′ v m′ x′)
+edge-same v p q r = rw (p, q, r)
+
+-- ---- blocks of clauses, one after the other
+
+module _ (n : ℕ) (g : ℕ → List Clause) where
+  -- room for the words of all blocks is room for each block's words
+  pub each-room : (at room : ℕ) → at + length (words (upTo n g)) ≤ room → at + length (upTo n (λ k. words (g k))) ≤ room
+  each-room at room h = rw (words-upTo n g) at h
+
+  pub each-wrote : {l l′ : List ℤ} {at r : ℕ} → Wrote l at (upTo n (λ k. words (g k))) l′ r → Wrote l at (words (upTo n g)) l′ r
+  each-wrote a = wrote-as a (sym (words-upTo n g))
+
+-- a clause, and then more
+pub more-words : (c : Clause) (cs : List Clause) → words (c ∷ []) ++ words cs ≡ words (c ∷ cs)
+more-words c cs = sym (words-append (c ∷ []) cs)
+
+-- ---- an option's words
+
+pub values-length : (b k : ℕ) → length (words (allValues b k ∷ [])) ≡ k + 1
+values-length b k = omega (arith, length-more (allValues b k) [], ap length words-none, run-length (λ j. valueNumber b j) k)
+
+pub values-words : (b k : ℕ) {first : ℕ} → first ≡ valueNumber b 0 → oneOf (λ j. first + j) k ++ (pos 0 ∷ []) ≡ words (allValues b k ∷ [])
+values-words b k {first} e = ap (λ (c : Clause). c ++ (pos 0 ∷ [])) (run-same (λ j. first + j) (λ j. valueNumber b j) k (λ j. omega arith)) ∙ sym (words-one (allValues b k))
+
+pub pair-length : (b i j : ℕ) → length (words (pair b i j ∷ [])) ≡ 3
+unfolding words
+pair-length b i j = refl
+
+pub pair-words : (b i j : ℕ) {m n : ℕ} → m ≡ valueNumber b i → n ≡ valueNumber b j → negated m ∷ negated n ∷ pos 0 ∷ [] ≡ words (pair b i j ∷ [])
+unfolding words
+pair-words b i j p q = rw (p, q)
+
+-- ---- T, not F, root
+
+pub ends-words : (D : ℕ) {t f r : ℕ} → t ≡ referenceNumber D 1 → f ≡ referenceNumber D 0 → r ≡ referenceNumber D 2 → plain t ∷ pos 0 ∷ negated f ∷ pos 0 ∷ plain r ∷ pos 0 ∷ [] ≡ words (ends D)
+unfolding words
+ends-words D p q r = rw (p, q, r)
+
+-- ---- a node's words: T1, and then each edge's
+
+module _ (D s b edge : ℕ) (ts : List ℕ) (v : ℕ) {node first k : ℕ} (p : node ≡ referenceNumber D (v + 2)) (q : first ≡ edgeNumber D s edge) (r : k ≡ length ts) where
+  pub node-words : words (t1 node (λ j. first + j) k ∷ []) ++ upTo (length ts) (lentEdge D s b edge ts node) ≡ words (lentNode D s b edge ts v)
+  node-words =
+      ap (λ (c : Clause). words (c ∷ []) ++ upTo (length ts) (lentEdge D s b edge ts node)) heads
+      ∙ ap (λ (n : ℕ). words (t1 n (λ j. edgeNumber D s (edge + j)) (length ts) ∷ []) ++ upTo (length ts) (lentEdge D s b edge ts n)) p
+      ∙ ap (λ (ws : List ℤ). words (t1 (referenceNumber D (v + 2)) (λ j. edgeNumber D s (edge + j)) (length ts) ∷ []) ++ ws) (sym (words-upTo (length ts) (λ j. edgeClauses (edgeNumber D s (edge + j)) (referenceNumber D (v + 2)) (referenceNumber D (getD ts j 0)) (valueNumber b j))))
+      ∙ more-words (t1 (referenceNumber D (v + 2)) (λ j. edgeNumber D s (edge + j)) (length ts)) (upTo (length ts) (λ j. edgeClauses (edgeNumber D s (edge + j)) (referenceNumber D (v + 2)) (referenceNumber D (getD ts j 0)) (valueNumber b j)))
+    where
+      heads : t1 node (λ j. first + j) k ≡ t1 node (λ j. edgeNumber D s (edge + j)) (length ts)
+      heads = ap (λ (c : Clause). negated node ∷ c) (run-same (λ j. first + j) (λ j. edgeNumber D s (edge + j)) k (λ j. omega arith) ∙ ap (λ (n : ℕ). oneOf (λ j. edgeNumber D s (edge + j)) n) r)
+
+-- ---- the whole list
+
+pub ends-length : (D : ℕ) → length (words (ends D)) ≡ 6
+unfolding words
+ends-length D = refl
+
+pub list-words : (ds ls ts : List ℕ) {D : ℕ} → D ≡ values (lent ds ls ts) → words (upTo (length ds) (optionOf edition1 (lent ds [] []))) ++ (words (ends D) ++ words (upTo (length ls) (nodeOf (lent ds ls ts)))) ≡ wordList edition1 (lent ds ls ts)
+unfolding wordList clauses firstValue
+list-words ds ls ts e =
+    let d = lent ds ls ts in
+    rw e
+    (sym (words-append (upTo (options d) (optionOf edition1 d)) (ends (values d) ++ upTo (nodes d) (nodeOf d)) ∙ ap (λ (ws : List ℤ). words (upTo (options d) (optionOf edition1 d)) ++ ws) (words-append (ends (values d)) (upTo (nodes d) (nodeOf d)))))
+
+-- ---- node v of a sound diagram, by the part of the targets that is lent to its emitter
+
+module _ (d : Lent) (s : Sound d) {D n : ℕ} (eD : D ≡ values d) (en : n ≡ nodes d) (v : ℕ) (h : v < nodes d) {b edge : ℕ} (eb : b ≡ firstValue d (asked d v)) (ee : edge ≡ firstEdge d v) where
+  abbrev part : List ℕ
+  part = take (edge + width d v - edge) (drop edge (d .targets))
+
+  within : firstEdge d v + width d v ≤ length (d .targets)
+  within = omega (arith, s .counted, edges-room d v (nodes d) h)
+
+  pub part-length : length part ≡ width d v
+  part-length = length-take-le (edge + width d v - edge) (drop edge (d .targets)) (omega (arith, within, length-drop edge (d .targets))) ∙ omega arith
+
+  part-target : (j : ℕ) → j < width d v → getD part j 0 ≡ target d v j
+  part-target j l =
+      getD-take (edge + width d v - edge) (drop edge (d .targets)) j 0 (omega arith)
+      ∙ getD-drop edge (d .targets) j 0
+      ∙ ap (λ (e : ℕ). leads d (e + j)) ee
+
+  pub part-small : Small D n b edge part
+  part-small = record {
+    few-values = omega (arith, values-most d (s .shaped) (options d) (le-refl _));
+    few-nodes = omega (arith, s .shaped .nodes-fit);
+    few-before = omega (arith, part-length, values-room d (asked d v) (options d) (asked-in d (s .shaped) v h), values-most d (s .shaped) (options d) (le-refl _));
+    few-edges = omega (arith, part-length, edges-room d v (nodes d) h, edges-most d (s .shaped) (nodes d) (le-refl _));
+    few-targets = λ j l. let k : j < width d v = omega (arith, part-length) in omega (arith, part-target j k, target-most d s v j h k, s .shaped .nodes-fit);
+  }
+
+  pub part-node : lentNode D n b edge part v ≡ nodeOf d v
+  part-node =
+      let two : v + 2 ≡ suc (suc v) = omega arith in
+      rw (eD, en, eb, part-length, two)
+      (ap (λ (cs : List Clause). t1 (referenceVariable d (suc (suc v))) (λ j. edgeNumber (values d) (nodes d) (edge + j)) (width d v) ∷ cs)
+      (list-same _ _ (width d v) (λ j l. ap (λ (m : ℕ). edgeClauses (edgeNumber (values d) (nodes d) (edge + j)) (referenceVariable d (suc (suc v))) (referenceVariable d m) (valueVariable d (asked d v) j)) (part-target j l)))
+      ∙ ap (λ (e : ℕ). nodeClauses (referenceVariable d (suc (suc v))) (λ j. edgeNumber (values d) (nodes d) (e + j)) (λ j. referenceVariable d (target d v j)) (λ j. valueVariable d (asked d v) j) (width d v)) ee)

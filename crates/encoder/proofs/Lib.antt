@@ -1,0 +1,4 @@
+pub mod EmitLaws
+pub mod CountLaws
+pub mod LiteralLaws
+pub mod EncodeLaws

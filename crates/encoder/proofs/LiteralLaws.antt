@@ -1,0 +1,139 @@
+-- Every literal of a sound diagram's clauses is a variable from 1 to V, either way; and what follows for its words.
+-- Assumes nothing.
+use mathlib.Core.Path.{_≡_, refl}
+use mathlib.Core.Logic.{_⊎_, inl, inr}
+use mathlib.Core.Bool.{true, false}
+use mathlib.Core.List.{List, [], _∷_, List·Memᴰ}
+use Prim.Native.Nat.{ℕ, zero, suc, _+_, _-_, _≤_, _<_}
+use native.Mathlib.Omega.{arith}
+use lib.IntN.{ℤ, pos, negsuc, natAbs}
+use lib.ListN.{length}
+use Rattle.lists.specs.Signed.{isZero}
+use Rattle.lists.specs.Upto.{upTo}
+use Rattle.lists.specs.Every.{Every}
+use Rattle.lists.proofs.UptoLaws.{sum-within}
+use Rattle.lists.proofs.EveryLaws.{every-none, every-more, every-both, every-upTo}
+use Rattle.cnf.specs.Clause.{Clause, plain, negated}
+use Rattle.cnf.specs.Words.{clausesOf, zeros, closed, NoZeros}
+use Rattle.cnf.proofs.WordsLaws.{word-of, clauses-words, zeros-words, closed-words}
+use Rattle.diagram.specs.Lent.{Lent, options, nodes, domain, asked, width, target}
+use Rattle.diagram.specs.Numbers.{valueNumber, referenceNumber, firstValue, values, valueVariable, referenceVariable, edgeVariable}
+use Rattle.diagram.specs.Sound.{Within, Sound}
+use Rattle.diagram.proofs.ShapedLaws.{asked-in, edges-room}
+use Rattle.diagram.proofs.NumberLaws.{target-most}
+use Rattle.encoder.specs.Clauses.{oneOf, pair, row, pairwise, edition1, ends, edgeClauses, nodeClauses, nodeOf, lastVariable, optionOf, clauses, wordList}
+use Rattle.encoder.proofs.CountLaws.{last-variable}
+
+-- ---- what holds of the variable of each literal
+
+module _ (P : ℕ → Type 0) where
+  abbrev pub Literals : Clause → Type 0
+  Literals = Every (λ l. P (natAbs l))
+
+  no-more : Literals []
+  no-more = every-none (λ l. P (natAbs l))
+
+  plain-more : {n : ℕ} {c : Clause} → P n → Literals c → Literals (plain n ∷ c)
+  plain-more p g = every-more (λ l. P (natAbs l)) p g
+
+  negated-variable : (n : ℕ) → P n → P (natAbs (negated n))
+  negated-variable zero p = p
+  negated-variable (suc n) p = p
+
+  negated-more : {n : ℕ} {c : Clause} → P n → Literals c → Literals (negated n ∷ c)
+  negated-more {n} p g = every-more (λ l. P (natAbs l)) (negated-variable n p) g
+
+  pub one-of-literals : (f : ℕ → ℕ) (k : ℕ) → ((j : ℕ) → j < k → P (f j)) → Literals (oneOf f k)
+  one-of-literals f k g = every-upTo (λ l. P (natAbs l)) k (λ j. plain (f j) ∷ []) (λ j h. plain-more (g j h) no-more)
+
+  no-clause : Every Literals []
+  no-clause = every-none Literals
+
+  clause-more : {c : Clause} {cs : List Clause} → Literals c → Every Literals cs → Every Literals (c ∷ cs)
+  clause-more = every-more Literals
+
+  pub option-literals : (b k : ℕ) → ((j : ℕ) → j < k → P (valueNumber b j)) → Every Literals (pairwise b k)
+  option-literals b k g =
+      clause-more (one-of-literals (valueNumber b) k g)
+      (every-upTo Literals k (λ i. row b i (k - 1 - i))
+      (λ i h. every-upTo Literals (k - 1 - i) (λ t. pair b i (i + 1 + t) ∷ [])
+      (λ t l. clause-more (negated-more (g i h) (negated-more (g (i + 1 + t) (omega arith)) no-more)) no-clause)))
+
+  pub ends-literals : (D : ℕ) → ((r : ℕ) → r ≤ 2 → P (referenceNumber D r)) → Every Literals (ends D)
+  ends-literals D g = clause-more (plain-more (g 1 (omega arith)) no-more) (clause-more (negated-more (g 0 (omega arith)) no-more) (clause-more (plain-more (g 2 (omega arith)) no-more) no-clause))
+
+  pub edge-literals : {e v m x : ℕ} → P e → P v → P m → P x → Every Literals (edgeClauses e v m x)
+  edge-literals {e} pe pv pm px = clause-more (with-edge pv) (clause-more (with-edge pm) (clause-more (with-edge px) (clause-more (negated-more pm (negated-more px (plain-more pe no-more))) no-clause)))
+    where
+      with-edge : {n : ℕ} → P n → Literals (negated e ∷ plain n ∷ [])
+      with-edge p = negated-more pe (plain-more p no-more)
+
+  pub node-literals : (v : ℕ) (e m x : ℕ → ℕ) (k : ℕ) → P v → ((j : ℕ) → j < k → P (e j)) → ((j : ℕ) → j < k → P (m j)) → ((j : ℕ) → j < k → P (x j)) → Every Literals (nodeClauses v e m x k)
+  node-literals v e m x k pv pe pm px =
+      clause-more (negated-more pv (one-of-literals e k pe))
+      (every-upTo Literals k (λ j. edgeClauses (e j) v (m j) (x j)) (λ j h. edge-literals (pe j h) pv (pm j h) (px j h)))
+
+-- ---- the variables of a sound diagram
+
+module _ (d : Lent) where
+  abbrev pub Variable : ℕ → Type 0
+  Variable = Within 1 (lastVariable edition1 d)
+
+  pub value-within : (i j : ℕ) → i < options d → j < domain d i → Variable (valueVariable d i j)
+  unfolding firstValue
+  value-within i j h l = (omega arith, omega (arith, last-variable d, sum-within (domain d) i (options d) j h l))
+
+  pub reference-within : (r : ℕ) → r ≤ nodes d + 1 → Variable (referenceVariable d r)
+  reference-within r h = (omega arith, omega (arith, last-variable d))
+
+  pub edge-within : (v j : ℕ) → v < nodes d → j < width d v → Variable (edgeVariable d v j)
+  edge-within v j h l = (omega arith, omega (arith, last-variable d, edges-room d v (nodes d) h))
+
+  pub closed-list : closed (wordList edition1 d) ≡ true
+  unfolding wordList
+  closed-list = closed-words (clauses edition1 d)
+
+  module _ (s : Sound d) where
+    pub literal-within : (c : Clause) → List·Memᴰ c (clauses edition1 d) → (l : ℤ) → List·Memᴰ l c → Within 1 (lastVariable edition1 d) (natAbs l)
+    unfolding clauses
+    literal-within =
+        every-both All (upTo (options d) (optionOf edition1 d))
+        (every-upTo All (options d) (optionOf edition1 d) (λ i h. option-literals Variable (firstValue d i) (domain d i) (λ j l. value-within i j h l)))
+        (every-both All (ends (values d))
+        (ends-literals Variable (values d) (λ r h. reference-within r (omega (arith, s .shaped .nodes-fit))))
+        (every-upTo All (nodes d) (nodeOf d) of-node))
+      where
+        All : Clause → Type 0
+        All = Literals Variable
+
+        of-node : (v : ℕ) → v < nodes d → Every All (nodeOf d v)
+        of-node v h = node-literals Variable _ _ _ _ (width d v)
+            (reference-within (suc (suc v)) (omega arith))
+            (λ j l. edge-within v j h l)
+            (λ j l. reference-within (target d v j) (target-most d s v j h l))
+            (λ j l. value-within (asked d v) j (asked-in d (s .shaped) v h) l)
+
+    pub no-zeros : NoZeros (clauses edition1 d)
+    unfolding isZero
+    no-zeros c m l n = go l (literal-within c m l n .0)
+      where
+        go : (l : ℤ) → 1 ≤ natAbs l → isZero l ≡ false
+        go (pos zero) h = absurd (omega arith)
+        go (pos (suc n)) h = refl
+        go (negsuc n) h = refl
+
+    pub zeros-list : zeros (wordList edition1 d) ≡ length (clauses edition1 d)
+    unfolding wordList
+    zeros-list = zeros-words (clauses edition1 d) no-zeros
+
+    pub clauses-back : clausesOf (wordList edition1 d) ≡ clauses edition1 d
+    unfolding wordList
+    clauses-back = clauses-words (clauses edition1 d) no-zeros
+
+    pub word-within : (w : ℤ) → List·Memᴰ w (wordList edition1 d) → (w ≡ pos 0) ⊎ Within 1 (lastVariable edition1 d) (natAbs w)
+    unfolding wordList
+    word-within w m = go (word-of (clauses edition1 d) m)
+      where
+        go : (w ≡ pos 0) ⊎ ((c : Clause) × List·Memᴰ c (clauses edition1 d) × List·Memᴰ w c) → (w ≡ pos 0) ⊎ Within 1 (lastVariable edition1 d) (natAbs w)
+        go (inl e) = inl e
+        go (inr t) = inr (literal-within (t .0) (t .1) w (t .2))

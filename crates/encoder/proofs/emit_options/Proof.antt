@@ -1,0 +1,62 @@
+-- `encoder::emit_options` meets its contract: before turn i, the first i options stand there. Assumes nothing.
+use mathlib.Core.List.{List, [], _∷_}
+use mathlib.Core.Path.{_≡_, refl, sym, ap}
+use Prim.Native.Nat.{ℕ, _≤_, _<_, _+_, _-_}
+use native.Mathlib.Omega.{arith}
+use lib.IntN.{ℤ}
+use lib.ListN.{length, getD}
+use borrow.Author.Needs.{needs}
+use Rattle.lists.proofs.BufferLaws.{kept, begin, turn, room, finish, wrote-as}
+use Rattle.lists.specs.Buffer.{Wrote}
+use Rattle.lists.specs.Upto.{upTo}
+use Rattle.cnf.specs.Clause.{Clause, words}
+use Rattle.diagram.proofs.NumberLaws.{values-none, values-more, values-room}
+use Rattle.diagram.specs.Lent.{Lent, lent, domain}
+use Rattle.diagram.specs.Numbers.{firstValue}
+use Rattle.encoder.proofs.EmitLaws.{each-room, each-wrote}
+use Rattle.encoder.specs.Clauses.{pairwise, edition1, optionOf}
+use Rattle.encoder.proofs.emit_options.Statement.{statement}
+use Rattle.encoder.proofs.emit_options.Tie as tie
+
+abbrev Inv-loop : tie.InvT-loop
+Inv-loop out₀ at domains p₀ before₀ i₀ out p before i = (i ≤ length domains) × (before ≡ firstValue (lent domains [] []) i) × Wrote out₀ at (upTo i (λ i. words (optionOf edition1 (lent domains [] []) i))) out p
+
+abbrev μ-loop : tie.MeasureT-loop
+μ-loop out₀ at domains p₀ before₀ i₀ out p before i = length domains - i
+
+abbrev start : tie.In-loop Inv-loop μ-loop → tie.Start Inv-loop μ-loop
+start t = t .before .before .before
+
+abbrev d : tie.In-loop Inv-loop μ-loop → Lent
+d t = lent (start t .args .domains .now) [] []
+
+-- this turn's option, by the values before it
+here : (t : tie.In-loop Inv-loop μ-loop) → let l = t .before .loop in words (pairwise (l .before) (domain (d t) (l .i))) ≡ words (optionOf edition1 (d t) (l .i))
+here t = let l = t .before .loop in ap (λ (b : ℕ). words (pairwise b (domain (d t) (l .i)))) (l .inv .1)
+
+within : (t : tie.In-loop Inv-loop μ-loop) → let l = t .before .loop in l .before + domain (d t) (l .i) ≤ 2048
+within t = omega (arith, t .before .loop .inv .1, values-room (d t) (t .before .loop .i) _ (t .loop-test .taken), start t .pre .1)
+
+pub emit-options-spec : {M : Type 1} → statement M
+emit-options-spec =
+    tie.close
+    (tie.spec
+    Inv-loop
+    μ-loop
+    (λ c. (omega arith, sym (values-none _), begin _))
+    (λ c. search needs)
+    (λ c. search needs)
+    (λ c κs.
+    let t = c .before .before in
+    let s = start t in
+    let l = t .before .loop in
+    (omega (arith, ap length (here t), room (λ i. words (optionOf edition1 (d t) i)) (l .inv .2) (each-room _ (optionOf edition1 (d t)) (s .args .at) _ (s .pre .0)) (t .loop-test .taken)), within t))
+    (λ c. omega (arith, within (c .before .before .before .before)))
+    (λ c. search needs)
+    (λ c. search needs)
+    (λ c.
+    let t = c .before .before .before .before in
+    let l = t .before .loop in
+    (omega (arith, t .loop-test .taken), omega (arith, l .inv .1, values-more (d t) (l .i)), turn (λ i. words (optionOf edition1 (d t) i)) (l .inv .2) (wrote-as (c .before .emit-option .ensures) (here t))))
+    (λ c. kept (c .before .loop .inv .2))
+    (λ c. let l = c .before .loop in each-wrote _ _ (finish _ (l .inv .2) (l .inv .0) (c .loop-test .left))))

@@ -1,0 +1,4 @@
+pub mod Clauses
+pub mod Counts
+pub mod Emit
+pub mod Promise

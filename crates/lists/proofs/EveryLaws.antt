@@ -1,0 +1,30 @@
+-- Laws of what holds of every entry of a list. Assumes nothing.
+use mathlib.Core.Path.{sym, subst}
+use mathlib.Core.Logic.{_⊎_, inl, inr}
+use mathlib.Core.List.{List, [], _∷_, _++_, List·Memᴰ, List·Memᴰ·head, List·Memᴰ·tail, List·Memᴰ·not-nil, List·Memᴰ·append-cases}
+use Prim.Native.Nat.{ℕ, _<_}
+use Rattle.lists.specs.Upto.{upTo}
+use Rattle.lists.specs.Every.{Every, Each}
+use Rattle.lists.proofs.UptoLaws.{of-list}
+
+module _ {A : Type 0} (P : A → Type 0) where
+  pub every-none : Every P []
+  every-none x m = absurd (List·Memᴰ·not-nil m)
+
+  pub every-more : {x : A} {xs : List A} → P x → Every P xs → Every P (x ∷ xs)
+  every-more p g y (List·Memᴰ·head e) = subst P (sym e) p
+  every-more p g y (List·Memᴰ·tail m) = g y m
+
+  pub every-both : (xs : List A) {ys : List A} → Every P xs → Every P ys → Every P (xs ++ ys)
+  every-both xs {ys} g h x m = go (List·Memᴰ·append-cases xs m)
+    where
+      go : List·Memᴰ x xs ⊎ List·Memᴰ x ys → P x
+      go (inl l) = g x l
+      go (inr l) = h x l
+
+  pub every-upTo : (n : ℕ) (f : ℕ → List A) → ((k : ℕ) → k < n → Every P (f k)) → Every P (upTo n f)
+  every-upTo n f g x m = let t = of-list f n m in g (t .0) (t .1) x (t .2)
+
+  pub each-every : (xs : List A) → Each P xs → Every P xs
+  each-every [] e = every-none
+  each-every (x ∷ xs) e = every-more (e .0) (each-every xs (e .1))
