@@ -3,28 +3,16 @@ use mathlib.Core.Path.{_≡_, refl}
 use mathlib.Core.List.{List}
 use Prim.Native.Nat.{ℕ, _+_, _≤_, _<_}
 use native.Mathlib.Omega.{arith}
-use Rattle.lists.proofs.UptoLaws.{sum-none, sum-more, sum-most, sum-rises, sum-room}
+use Rattle.lists.proofs.UptoLaws.{Sums, sums, sum-most}
 use Rattle.diagram.specs.Lent.{Lent, lent, options, nodes, domain, layer, width, target}
 use Rattle.diagram.specs.Sound.{Shaped, Permitted, to-false, to-true, to-node, Sound}
 use Rattle.diagram.specs.Numbers.{firstValue}
 
 module _ (d : Lent) where
   -- values before an option: none before the first, then each option's
-  pub values-none : firstValue d 0 ≡ 0
+  pub value-sums : Sums (domain d) (firstValue d)
   unfolding firstValue
-  values-none = sum-none (domain d)
-
-  pub values-more : (i : ℕ) → firstValue d (i + 1) ≡ firstValue d i + domain d i
-  unfolding firstValue
-  values-more i = sum-more (domain d) i
-
-  pub values-rise : (i n : ℕ) → i ≤ n → firstValue d i ≤ firstValue d n
-  unfolding firstValue
-  values-rise i n h = sum-rises (domain d) i n h
-
-  pub values-room : (i n : ℕ) → i < n → firstValue d i + domain d i ≤ firstValue d n
-  unfolding firstValue
-  values-room i n h = sum-room (domain d) i n h
+  value-sums = sums (domain d)
 
   pub values-most : Shaped d → (i : ℕ) → i ≤ options d → firstValue d i ≤ 2048
   unfolding firstValue

@@ -20,7 +20,7 @@ use Rattle.diagram.specs.Sound.{Shaped}
 use Rattle.diagram.specs.Rules.{permits, owner, badTarget}
 use Rattle.diagram.specs.Range.{NoneAbove, LayerEnd, stray, RangeOf}
 use Rattle.diagram.specs.declared.Range.{Range}
-use Rattle.diagram.proofs.ShapedLaws.{layer-within, layers-rise, edges-rise}
+use Rattle.diagram.proofs.ShapedLaws.{layer-within, layers-rise, edge-sums}
 
 -- nodes of layers up to i: none yet, and then some more
 pub none-yet : (ls : List ℕ) (from i : ℕ) → from ≤ length ls → NoneAbove ls from i from
@@ -53,7 +53,7 @@ pub owner-is : (d : Lent) (v e : ℕ) → v < nodes d → firstEdge d v ≤ e �
 unfolding owner
 owner-is d v e h low high =
     is-last (λ w. leb (firstEdge d w) e) (nodes d) v h (le-leb (firstEdge d v) e low)
-    (λ w l k. lt-leb (firstEdge d w) e (let q : firstEdge d (v + 1) ≤ firstEdge d w = edges-rise d (v + 1) w (omega arith) in omega arith))
+    (λ w l k. lt-leb (firstEdge d w) e (let q : firstEdge d (v + 1) ≤ firstEdge d w = edge-sums d .rise (v + 1) w (omega arith) in omega arith))
 
 module _ (d : Lent) (s : Shaped d) (v next : ℕ) (hv : v < nodes d) (end : LayerEnd (d .layers) v (layer d v) next) where
   pub moves-on : v < next
@@ -87,7 +87,7 @@ module _ (d : Lent) (s : Shaped d) (v next : ℕ) (hv : v < nodes d) (end : Laye
           let o : ℕ = lastTo (nodes d) begins in
           let b : firstEdge d o ≤ e = leb-true (firstEdge d o) e (w .1) in
           same-layer o (up-to-last begins (nodes d) v hv (le-leb (firstEdge d v) e low))
-          (⊎-elim (λ (l : o < next). l) (λ (l : next ≤ o). absurd (let q : firstEdge d next ≤ firstEdge d o = edges-rise d next o l in omega arith)) (below-or-not o next))
+          (⊎-elim (λ (l : o < next). l) (λ (l : next ≤ o). absurd (let q : firstEdge d next ≤ firstEdge d o = edge-sums d .rise next o l in omega arith)) (below-or-not o next))
 
       none : ((w : ℕ) → w < nodes d → begins w ≡ false) → layer d (lastTo (nodes d) begins) ≡ layer d v
       none f = absurd (let q : e < firstEdge d v = leb-false (firstEdge d v) e (f v hv) in omega arith)

@@ -10,7 +10,7 @@ use native.Mathlib.Omega.{arith}
 use lib.Dec.{ltb, eqb}
 use borrow.Author.Tests.{ltb-true, ltb-false, eqb-true, eqb-false, ne-eqb, not-true, not-false}
 use Rattle.lists.specs.First.{foundIf, first, FirstFailing}
-use Rattle.lists.proofs.UptoLaws.{sum-none, sum-more, sum-most, sum-rises, sum-room}
+use Rattle.lists.proofs.UptoLaws.{Sums, sums, sum-most}
 use Rattle.lists.proofs.FirstLaws.{Tests, tests-one, tests-each}
 use Rattle.refusal.specs.Rules.{chain}
 use Rattle.refusal.specs.declared.Verdict.the-variants.{Passed}
@@ -115,21 +115,9 @@ module _ (d : Lent) where
   -- ---- what follows
 
   -- edges before a node: none before the first, then each node's
-  pub edges-none : firstEdge d 0 ≡ 0
+  pub edge-sums : Sums (width d) (firstEdge d)
   unfolding firstEdge
-  edges-none = sum-none (width d)
-
-  pub edges-more : (v : ℕ) → firstEdge d (v + 1) ≡ firstEdge d v + width d v
-  unfolding firstEdge
-  edges-more v = sum-more (width d) v
-
-  pub edges-rise : (v w : ℕ) → v ≤ w → firstEdge d v ≤ firstEdge d w
-  unfolding firstEdge
-  edges-rise v w h = sum-rises (width d) v w h
-
-  pub edges-room : (v w : ℕ) → v < w → firstEdge d v + width d v ≤ firstEdge d w
-  unfolding firstEdge
-  edges-room v w h = sum-room (width d) v w h
+  edge-sums = sums (width d)
 
   module _ (s : Shaped d) where
     -- a node's layer is that of an option

@@ -17,7 +17,7 @@ use Rattle.refusal.proofs.TableLaws.{Faithful}
 use Rattle.diagram.specs.Lent.{Lent, options, nodes, layer, width, firstEdge, edges, target}
 use Rattle.diagram.specs.Sound.{Permitted, to-false, to-true, to-node, TargetFits, Counted, Sound, checkTable}
 use Rattle.diagram.specs.Rules.{permits, badTarget, optionRules, nodeRules, targetRules, checkRules}
-use Rattle.diagram.proofs.ShapedLaws.{tests-1, tests-2, tests-3, tests-4, shaped, edges-more}
+use Rattle.diagram.proofs.ShapedLaws.{tests-1, tests-2, tests-3, tests-4, shaped, edge-sums}
 use Rattle.diagram.proofs.RangeLaws.{owner-is}
 
 module _ (d : Lent) where
@@ -44,7 +44,7 @@ module _ (d : Lent) where
   -- the target of edge j of node v
   owned : (v j p : ℕ) → v < nodes d → j < width d v → p ≡ firstEdge d v + j → badTarget d p ≡ not (permits d (layer d v) (target d v j))
   unfolding badTarget
-  owned v j p hv hj e = rw (owner-is d v p hv (omega arith) (omega (arith, edges-more d v)), e)
+  owned v j p hv hj e = rw (owner-is d v p hv (omega arith) (omega (arith, edge-sums d .more v)), e)
 
   target-good : (p : ℕ) → p < edges d → badTarget d p ≡ false → TargetFits d p
   target-good p h e v j hv hj q = permits-true (layer d v) (target d v j) (not-false (permits d (layer d v) (target d v j)) (sym (owned v j p hv hj q) ∙ e))

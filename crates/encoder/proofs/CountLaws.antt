@@ -15,7 +15,8 @@ use Rattle.diagram.specs.Numbers.{firstValue, values, valueNumber, valueVariabl
 use Rattle.diagram.specs.Sound.{Shaped}
 use Rattle.diagram.proofs.ShapedLaws.{edges-most}
 use Rattle.diagram.proofs.NumberLaws.{values-most}
-use Rattle.encoder.specs.Clauses.{pair, row, pairs, allValues, pairwise, edition1, ends, t1, edgeClauses, nodeClauses, nodeOf, firstHelper, lastVariable, optionOf, clauses, wordList}
+use Rattle.encoder.specs.Clauses.{pair, row, pairs, allValues, pairwise, edition1, ends, t1, edgeClauses, nodeOf, firstHelper, lastVariable, optionOf, clauses, wordList}
+use Rattle.encoder.specs.Emit.{nodeClauses}
 use Rattle.encoder.specs.Counts.{pairCount, clauseFormula, wordFormula}
 
 -- ---- pairs

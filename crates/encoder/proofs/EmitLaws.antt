@@ -16,10 +16,10 @@ use Rattle.cnf.proofs.WordsLaws.{words-none, words-one, words-append, words-upT
 use Rattle.diagram.specs.Lent.{Lent, lent, options, nodes, asked, width, firstEdge, leads, target}
 use Rattle.diagram.specs.Sound.{Sound}
 use Rattle.diagram.specs.Numbers.{valueNumber, referenceNumber, edgeNumber, firstValue, values, valueVariable, referenceVariable}
-use Rattle.diagram.proofs.ShapedLaws.{asked-in, edges-room, edges-most}
-use Rattle.diagram.proofs.NumberLaws.{values-room, values-most, target-most}
-use Rattle.encoder.specs.Clauses.{oneOf, allValues, pair, edition1, optionOf, ends, edgeClauses, t1, nodeClauses, nodeOf, clauses, wordList}
-use Rattle.encoder.specs.Emit.{lentEdge, lentNode, Small}
+use Rattle.diagram.proofs.ShapedLaws.{asked-in, edge-sums, edges-most}
+use Rattle.diagram.proofs.NumberLaws.{value-sums, values-most, target-most}
+use Rattle.encoder.specs.Clauses.{oneOf, allValues, pair, edition1, optionOf, ends, edgeClauses, t1, nodeOf, clauses, wordList}
+use Rattle.encoder.specs.Emit.{nodeClauses, lentEdge, lentNode, Small}
 
 -- ---- lengths
 
@@ -110,7 +110,7 @@ module _ (d : Lent) (s : Sound d) {D n : ℕ} (eD : D ≡ values d) (en : n ≡ 
   part = take (edge + width d v - edge) (drop edge (d .targets))
 
   within : firstEdge d v + width d v ≤ length (d .targets)
-  within = omega (arith, s .counted, edges-room d v (nodes d) h)
+  within = omega (arith, s .counted, edge-sums d .room v (nodes d) h)
 
   pub part-length : length part ≡ width d v
   part-length = length-take-le (edge + width d v - edge) (drop edge (d .targets)) (omega (arith, within, length-drop edge (d .targets))) ∙ omega arith
@@ -125,8 +125,8 @@ module _ (d : Lent) (s : Sound d) {D n : ℕ} (eD : D ≡ values d) (en : n ≡ 
   part-small = record {
     few-values = omega (arith, values-most d (s .shaped) (options d) (le-refl _));
     few-nodes = omega (arith, s .shaped .nodes-fit);
-    few-before = omega (arith, part-length, values-room d (asked d v) (options d) (asked-in d (s .shaped) v h), values-most d (s .shaped) (options d) (le-refl _));
-    few-edges = omega (arith, part-length, edges-room d v (nodes d) h, edges-most d (s .shaped) (nodes d) (le-refl _));
+    few-before = omega (arith, part-length, value-sums d .room (asked d v) (options d) (asked-in d (s .shaped) v h), values-most d (s .shaped) (options d) (le-refl _));
+    few-edges = omega (arith, part-length, edge-sums d .room v (nodes d) h, edges-most d (s .shaped) (nodes d) (le-refl _));
     few-targets = λ j l. let k : j < width d v = omega (arith, part-length) in omega (arith, part-target j k, target-most d s v j h k, s .shaped .nodes-fit);
   }
 

@@ -34,15 +34,17 @@ use Rattle.diagram.specs.Promise.{countsOf}
 use Rattle.diagram.specs.declared.Diagram.{Diagram}
 use Rattle.diagram.proofs.SoundLaws.{check-faithful, passed-sound, sound-passed}
 use Rattle.encoder.specs.Clauses.{Edition, edition1, clauses, wordList, lastVariable}
-use Rattle.encoder.specs.Emit.{tallyBy}
+use Rattle.encoder.specs.Emit.{Tallied}
 use Rattle.encoder.specs.Promise.{needed, ownTally, roomTable, encodeTable, roomRules, encodeRules, encodedSaid, EncodedBy, EncodePromise, encoded-said-once}
 use Rattle.encoder.specs.declared.Encoded.the-variants.{Written, Refused}
 use Rattle.encoder.specs.declared.EncodeAnswer.{EncodeAnswer}
 use Rattle.encoder.proofs.CountLaws.{allPairs, clause-count, word-count, last-variable, clauses-by-pairs, words-by-pairs}
 
 -- the counts by sums are the diagram's own
-pub own-tally : (d : Lent) {c : Diagram} {p : ℕ} → c ≡ countsOf d → p ≡ allPairs d → tallyBy c p ≡ ownTally edition1 d
-own-tally d e q = rw (e, q) (tally-same _ _ _ _ _ _ (sym (word-count d ∙ words-by-pairs d)) (sym (clause-count d ∙ clauses-by-pairs d)) (sym (last-variable d)))
+pub own-tally : (d : Lent) {c : Diagram} {p : ℕ} (t : Tally) → Tallied c p t → c ≡ countsOf d → p ≡ allPairs d → t ≡ ownTally edition1 d
+own-tally d t r e q =
+    let s : Tallied (countsOf d) (allPairs d) t = rw (e, q) at r in
+    tally-same _ _ _ _ _ _ (s .words ∙ sym (word-count d ∙ words-by-pairs d)) (s .clauses ∙ sym (clause-count d ∙ clauses-by-pairs d)) (s .variables ∙ sym (last-variable d))
 
 module _ (e : Edition) (d : Lent) where
   module _ (room : ℕ) where

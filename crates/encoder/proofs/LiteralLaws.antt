@@ -19,9 +19,10 @@ use Rattle.cnf.proofs.WordsLaws.{word-of, clauses-words, zeros-words, closed-wo
 use Rattle.diagram.specs.Lent.{Lent, options, nodes, domain, asked, width, target}
 use Rattle.diagram.specs.Numbers.{valueNumber, referenceNumber, firstValue, values, valueVariable, referenceVariable, edgeVariable}
 use Rattle.diagram.specs.Sound.{Within, Sound}
-use Rattle.diagram.proofs.ShapedLaws.{asked-in, edges-room}
+use Rattle.diagram.proofs.ShapedLaws.{asked-in, edge-sums}
 use Rattle.diagram.proofs.NumberLaws.{target-most}
-use Rattle.encoder.specs.Clauses.{oneOf, pair, row, pairwise, edition1, ends, edgeClauses, nodeClauses, nodeOf, lastVariable, optionOf, clauses, wordList}
+use Rattle.encoder.specs.Clauses.{oneOf, pair, row, pairwise, edition1, ends, edgeClauses, nodeOf, lastVariable, optionOf, clauses, wordList}
+use Rattle.encoder.specs.Emit.{nodeClauses}
 use Rattle.encoder.proofs.CountLaws.{last-variable}
 
 -- ---- what holds of the variable of each literal
@@ -87,7 +88,7 @@ module _ (d : Lent) where
   reference-within r h = (omega arith, omega (arith, last-variable d))
 
   pub edge-within : (v j : ℕ) → v < nodes d → j < width d v → Variable (edgeVariable d v j)
-  edge-within v j h l = (omega arith, omega (arith, last-variable d, edges-room d v (nodes d) h))
+  edge-within v j h l = (omega arith, omega (arith, last-variable d, edge-sums d .room v (nodes d) h))
 
   pub closed-list : closed (wordList edition1 d) ≡ true
   unfolding wordList

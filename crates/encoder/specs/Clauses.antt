@@ -64,18 +64,20 @@ t5 e m x = negated m ∷ negated x ∷ plain e ∷ []
 abbrev pub edgeClauses : ℕ → ℕ → ℕ → ℕ → List Clause
 edgeClauses e v m x = t2 e v ∷ t3 e m ∷ t4 e x ∷ t5 e m x ∷ []
 
--- ---- a node v of k edges: edge j is e j, with target m j and value variable x j
+-- ---- a node v of k edges, where e gives their numbers
 
 abbrev pub t1 : ℕ → (ℕ → ℕ) → ℕ → Clause
 t1 v e k = negated v ∷ oneOf e k
 
-abbrev pub nodeClauses : ℕ → (ℕ → ℕ) → (ℕ → ℕ) → (ℕ → ℕ) → ℕ → List Clause
-nodeClauses v e m x k = t1 v e k ∷ upTo k (λ j. edgeClauses (e j) v (m j) (x j))
-
 -- ---- a diagram
 
+-- T2 to T5 of the edge of value j of node v
+abbrev pub edgeOf : Lent → ℕ → ℕ → List Clause
+edgeOf d v j = edgeClauses (edgeVariable d v j) (referenceVariable d (suc (suc v))) (referenceVariable d (target d v j)) (valueVariable d (asked d v) j)
+
+-- T1 of node v, and then each of its edges in value order
 abbrev pub nodeOf : Lent → ℕ → List Clause
-nodeOf d v = nodeClauses (referenceVariable d (suc (suc v))) (λ j. edgeVariable d v j) (λ j. referenceVariable d (target d v j)) (λ j. valueVariable d (asked d v) j) (width d v)
+nodeOf d v = t1 (referenceVariable d (suc (suc v))) (λ j. edgeVariable d v j) (width d v) ∷ upTo (width d v) (λ j. edgeOf d v j)
 
 module _ (e : Edition) (d : Lent) where
   -- how many variables stand before the helpers of option i: they come after the last edge, option by option

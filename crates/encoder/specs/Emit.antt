@@ -1,15 +1,20 @@
 -- What the functions inside `encode` say to each other: a node's clauses by what is lent to its emitter, and no more of
 -- the diagram than that; and the three counts by sums. Assumes nothing.
-use mathlib.Core.List.{List}
+use mathlib.Core.Path.{_≡_}
+use mathlib.Core.List.{List, _∷_}
 use Prim.Native.Nat.{ℕ, _+_, _*_, _≤_, _<_}
 use lib.ListN.{length, getD}
 use lib.IntN.{ℤ}
+use Rattle.lists.specs.Upto.{upTo}
 use Rattle.cnf.specs.Clause.{Clause, words}
-use Rattle.cnf.specs.Tally.{tally}
 use Rattle.cnf.specs.declared.Tally.{Tally}
 use Rattle.diagram.specs.Numbers.{valueNumber, referenceNumber, edgeNumber, lastNumber}
 use Rattle.diagram.specs.declared.Diagram.{Diagram}
-use Rattle.encoder.specs.Clauses.{edgeClauses, nodeClauses}
+use Rattle.encoder.specs.Clauses.{edgeClauses, t1}
+
+-- a node v of k edges: edge j is e j, with target m j and value variable x j
+abbrev pub nodeClauses : ℕ → (ℕ → ℕ) → (ℕ → ℕ) → (ℕ → ℕ) → ℕ → List Clause
+nodeClauses v e m x k = t1 v e k ∷ upTo k (λ j. edgeClauses (e j) v (m j) (x j))
 
 -- a node whose first edge is number `edge`, whose option has b values before it, and whose targets are ts, in a diagram
 -- of D values and s nodes
@@ -31,5 +36,7 @@ module _ (D s b edge : ℕ) (ts : List ℕ) where
     pub few-targets : (j : ℕ) → j < length ts → getD ts j 0 ≤ 4097
 
 -- words, clauses and V, from a diagram's counts and how many pairs its options have together
-abbrev pub tallyBy : Diagram → ℕ → Tally
-tallyBy c pairs = tally (6 + 2 * c .nodes + 14 * c .edges + c .values + c .options + 3 * pairs) (3 + c .nodes + 4 * c .edges + c .options + pairs) (lastNumber (c .values) (c .nodes) (c .edges))
+pub record Tallied (c : Diagram) (pairs : ℕ) (t : Tally) : Type 0 where
+  pub words : t .words ≡ 6 + 2 * c .nodes + 14 * c .edges + c .values + c .options + 3 * pairs
+  pub clauses : t .clauses ≡ 3 + c .nodes + 4 * c .edges + c .options + pairs
+  pub variables : t .variables ≡ lastNumber (c .values) (c .nodes) (c .edges)

@@ -17,7 +17,7 @@ ghost use Rattle.diagram.specs.Promise.{countsOf};
 ghost use Rattle.diagram.specs.Numbers.{firstValue};
 ghost use Rattle.encoder.specs.Clauses.{oneOf, allValues, row, pairs, pairwise, edition1, optionOf, ends, edgeClauses, t1, nodeOf, wordList};
 ghost use Rattle.encoder.specs.Counts.{pairCount};
-ghost use Rattle.encoder.specs.Emit.{lentEdge, lentNode, Small, tallyBy};
+ghost use Rattle.encoder.specs.Emit.{lentEdge, lentNode, Small, Tallied};
 ghost use Rattle.encoder.specs.Promise.{roomRules, EncodedBy, EncodePromise};
 
 pub enum Encoded {
@@ -383,7 +383,7 @@ fn pair_count(domains: &[u32]) -> u32
 // Words, clauses and V, before a word is written.
 fn tally_of(counts: Diagram, pairs: u32) -> Tally
     requires { ⌜ (counts .options ≤ 64) × (counts .nodes ≤ 4096) × (counts .values ≤ 2048) × (counts .edges ≤ 131072) × (pairs ≤ 31744) ⌝ }
-    ensures { λ r. ⌜ r ≡ tallyBy counts pairs ⌝ }
+    ensures { λ r. ⌜ Tallied counts pairs r ⌝ }
 {
     let words = 6
         + 2 * counts.nodes

@@ -79,6 +79,16 @@ module _ (f : ℕ → ℕ) where
       go (inl l) r = let t = r l in let h : t .0 < n = t .2 in (t .0, t .1, omega arith, t .3, t .4)
       go (inr l) r = (n, u - sumTo n f, omega arith, omega arith, omega arith)
 
+-- a running total of f: what a name for `sumTo` of f is known by
+pub record Sums (f total : ℕ → ℕ) : Type 0 where
+  pub none : total 0 ≡ 0
+  pub more : (n : ℕ) → total (n + 1) ≡ total n + f n
+  pub rise : (i n : ℕ) → i ≤ n → total i ≤ total n
+  pub room : (i n : ℕ) → i < n → total i + f i ≤ total n
+
+pub sums : (f : ℕ → ℕ) → Sums f (λ n. sumTo n f)
+sums f = record { none = sum-none f; more = sum-more f; rise = sum-rises f; room = sum-room f }
+
 pub sum-same : (f g : ℕ → ℕ) (n : ℕ) → ((k : ℕ) → k < n → f k ≡ g k) → sumTo n f ≡ sumTo n g
 unfolding sumTo
 sum-same f g zero h = refl

@@ -6,7 +6,7 @@ use native.Mathlib.Omega.{arith}
 use lib.ListN.{length}
 use borrow.Author.Needs.{needs}
 use Rattle.diagram.specs.Lent.{Lent, lent, firstEdge}
-use Rattle.diagram.proofs.ShapedLaws.{layers-rise, edges-none, edges-most}
+use Rattle.diagram.proofs.ShapedLaws.{layers-rise, edge-sums, edges-most}
 use Rattle.diagram.proofs.RangeLaws.{moves-on}
 use Rattle.diagram.proofs.edge_count.Statement.{statement}
 use Rattle.diagram.proofs.edge_count.Tie as tie
@@ -36,7 +36,7 @@ edge-count-spec =
     (tie.spec
     Inv-loop
     μ-loop
-    (λ c. (omega arith, sym (edges-none _)))
+    (λ c. (omega arith, sym (edge-sums _ .none)))
     (λ c. search needs)
     (λ c. search needs)
     (λ c κs. let t = c .before in (omega arith, layers-rise (d t) (start t .pre)))

@@ -11,7 +11,7 @@ use Rattle.lists.proofs.FirstLaws.{start, done, on-none, on-found, found-least}
 use Rattle.diagram.specs.Lent.{Lent, lent, firstEdge, edges}
 use Rattle.diagram.specs.Sound.{Shaped}
 use Rattle.diagram.specs.Rules.{badTarget}
-use Rattle.diagram.proofs.ShapedLaws.{layers-rise, reshaped, same-edges, edges-none, edges-rise, edges-most}
+use Rattle.diagram.proofs.ShapedLaws.{layers-rise, reshaped, same-edges, edge-sums, edges-most}
 use Rattle.diagram.proofs.RangeLaws.{moves-on, same-range, part-length, in-stretch}
 use Rattle.diagram.proofs.first_bad_target.Statement.{statement}
 use Rattle.diagram.proofs.first_bad_target.Tie as tie
@@ -45,7 +45,7 @@ is-e c =
     ∙ same-edges (s .domains .now) (s .layers .now) [] (s .targets .now) (c .before .layer-end .result)
 
 room : (c : tie.After-layer-edges Inv-loop μ-loop) → test c .before .loop .a + c .layer-edges .result ≤ length (begin (test c) .args .targets .now)
-room c = omega (arith, is-e c, edges-rise (d (test c)) (c .before .layer-end .result) (length (begin (test c) .args .layers .now)) (c .before .layer-end .ensures .none-above .to-last), begin (test c) .pre .1)
+room c = omega (arith, is-e c, edge-sums (d (test c)) .rise (c .before .layer-end .result) (length (begin (test c) .args .layers .now)) (c .before .layer-end .ensures .none-above .to-last), begin (test c) .pre .1)
 
 small : (c : tie.After-layer-edges Inv-loop μ-loop) → test c .before .loop .a + c .layer-edges .result ≤ 131072
 small c = omega (arith, is-e c, edges-most (d (test c)) (shape (test c)) (c .before .layer-end .result) (c .before .layer-end .ensures .none-above .to-last))
@@ -67,7 +67,7 @@ first-bad-target-spec =
     (tie.spec
     Inv-loop
     μ-loop
-    (λ c. (omega arith, sym (edges-none _), start _))
+    (λ c. (omega arith, sym (edge-sums _ .none), start _))
     (λ c. search needs)
     (λ c. search needs)
     (λ c κs. let t = c .before in (omega arith, layers-rise (d t) (shape t)))

@@ -12,8 +12,8 @@ use Rattle.lists.proofs.BufferLaws.{kept, begin, turn, room, finish, wrote-as, 
 use Rattle.lists.specs.Buffer.{Wrote}
 use Rattle.lists.specs.Upto.{upTo}
 use Rattle.cnf.specs.Clause.{Clause, words}
-use Rattle.diagram.proofs.NumberLaws.{values-none, values-most, same-values}
-use Rattle.diagram.proofs.ShapedLaws.{layer-within, layers-rise, width-within, edges-none, edges-more, edges-room, edges-most}
+use Rattle.diagram.proofs.NumberLaws.{value-sums, values-most, same-values}
+use Rattle.diagram.proofs.ShapedLaws.{layer-within, layers-rise, width-within, edge-sums, edges-most}
 use Rattle.diagram.specs.Lent.{Lent, lent, options, nodes, domain, layer, asked, width, firstEdge}
 use Rattle.diagram.specs.Numbers.{firstValue, values}
 use Rattle.diagram.specs.Promise.{countsOf}
@@ -48,7 +48,7 @@ option t = layer-within (d t) (sound t .shaped) (t .before .loop .v) (t .loop-te
 
 -- its edges end among the targets
 ends : (t : tie.In-loop Inv-loop μ-loop) → let l = t .before .loop in l .edge + width (d t) (l .v) ≤ length (start t .args .targets .now)
-ends t = omega (arith, t .before .loop .inv .3, sound t .counted, edges-room (d t) (t .before .loop .v) (nodes (d t)) (t .loop-test .taken))
+ends t = omega (arith, t .before .loop .inv .3, sound t .counted, edge-sums (d t) .room (t .before .loop .v) (nodes (d t)) (t .loop-test .taken))
 
 few : (t : tie.In-loop Inv-loop μ-loop) → length (start t .args .targets .now) ≤ 131072
 few t = omega (arith, sound t .counted, edges-most (d t) (sound t .shaped) (nodes (d t)) (le-refl _))
@@ -92,7 +92,7 @@ emit-nodes-spec =
     (tie.spec
     Inv-loop
     μ-loop
-    (λ c. (omega arith, (λ h. omega arith), sym (values-none _), sym (edges-none _), begin _))
+    (λ c. (omega arith, (λ h. omega arith), sym (value-sums _ .none), sym (edge-sums _ .none), begin _))
     -- the option, and the values before it
     (λ c. omega (arith, sound c .shaped .nodes-fit, c .loop-test .taken))
     (λ c. c .before .loop-test .taken)
@@ -130,7 +130,7 @@ emit-nodes-spec =
       omega (arith, t .loop-test .taken),
       (λ h. let k : l .v ≤ l .v + 1 = omega arith in omega (arith, layers-rise (d t) (sound t .shaped) (l .v) (l .v + 1) k h)),
       b .values-before .ensures,
-      omega (arith, l .inv .3, edges-more (d t) (l .v)),
+      omega (arith, l .inv .3, edge-sums (d t) .more (l .v)),
       turn (λ v. words (nodeOf (d t) v)) (l .inv .4) (wrote-as (front-in-part (l .out) (l .p) (fits b) (c .before .emit-node .ensures)) (node b)),
     ))
     (λ c. kept (c .before .loop .inv .4))

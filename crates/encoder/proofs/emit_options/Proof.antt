@@ -10,7 +10,7 @@ use Rattle.lists.proofs.BufferLaws.{kept, begin, turn, room, finish, wrote-as}
 use Rattle.lists.specs.Buffer.{Wrote}
 use Rattle.lists.specs.Upto.{upTo}
 use Rattle.cnf.specs.Clause.{Clause, words}
-use Rattle.diagram.proofs.NumberLaws.{values-none, values-more, values-room}
+use Rattle.diagram.proofs.NumberLaws.{value-sums}
 use Rattle.diagram.specs.Lent.{Lent, lent, domain}
 use Rattle.diagram.specs.Numbers.{firstValue}
 use Rattle.encoder.proofs.EmitLaws.{each-room, each-wrote}
@@ -35,7 +35,7 @@ here : (t : tie.In-loop Inv-loop μ-loop) → let l = t .before .loop in words (
 here t = let l = t .before .loop in ap (λ (b : ℕ). words (pairwise b (domain (d t) (l .i)))) (l .inv .1)
 
 within : (t : tie.In-loop Inv-loop μ-loop) → let l = t .before .loop in l .before + domain (d t) (l .i) ≤ 2048
-within t = omega (arith, t .before .loop .inv .1, values-room (d t) (t .before .loop .i) _ (t .loop-test .taken), start t .pre .1)
+within t = omega (arith, t .before .loop .inv .1, value-sums (d t) .room (t .before .loop .i) _ (t .loop-test .taken), start t .pre .1)
 
 pub emit-options-spec : {M : Type 1} → statement M
 emit-options-spec =
@@ -43,7 +43,7 @@ emit-options-spec =
     (tie.spec
     Inv-loop
     μ-loop
-    (λ c. (omega arith, sym (values-none _), begin _))
+    (λ c. (omega arith, sym (value-sums _ .none), begin _))
     (λ c. search needs)
     (λ c. search needs)
     (λ c κs.
@@ -57,6 +57,6 @@ emit-options-spec =
     (λ c.
     let t = c .before .before .before .before in
     let l = t .before .loop in
-    (omega (arith, t .loop-test .taken), omega (arith, l .inv .1, values-more (d t) (l .i)), turn (λ i. words (optionOf edition1 (d t) i)) (l .inv .2) (wrote-as (c .before .emit-option .ensures) (here t))))
+    (omega (arith, t .loop-test .taken), omega (arith, l .inv .1, value-sums (d t) .more (l .i)), turn (λ i. words (optionOf edition1 (d t) i)) (l .inv .2) (wrote-as (c .before .emit-option .ensures) (here t))))
     (λ c. kept (c .before .loop .inv .2))
     (λ c. let l = c .before .loop in each-wrote _ _ (finish _ (l .inv .2) (l .inv .0) (c .loop-test .left))))

@@ -1,5 +1,5 @@
 -- `encoder::encode_sound` meets its contract: number 7, or the words. Assumes nothing.
-use mathlib.Core.Path.{_≡_, sym, _∙_, ap, subst}
+use mathlib.Core.Path.{_≡_, sym, ap, subst}
 use Prim.Native.Nat.{ℕ, _≤_}
 use native.Mathlib.Nat.{le-refl}
 use native.Mathlib.Omega.{arith}
@@ -25,7 +25,7 @@ abbrev start : tie.After-tally-of → tie.Start
 start c = c .before .before .before .before .before
 
 own : (c : tie.After-tally-of) → c .tally-of .result ≡ ownTally edition1 (d (start c))
-own c = c .tally-of .ensures ∙ own-tally (d (start c)) (start c .pre .1) (c .before .pair-count .ensures)
+own c = own-tally (d (start c)) (c .tally-of .result) (c .tally-of .ensures) (start c .pre .1) (c .before .pair-count .ensures)
 
 length-is : (c : tie.After-tally-of) → c .tally-of .result .words ≡ needed edition1 (d (start c))
 length-is c = ap (λ (t : Tally). t .words) (own c)

@@ -4,7 +4,7 @@ use mathlib.Core.Path.{_≡_, ap, _∙_}
 use Prim.Native.Nat.{ℕ, _≤_, _<_, _+_, _-_}
 use native.Mathlib.Omega.{arith}
 use lib.ListN.{length}
-use Rattle.diagram.proofs.NumberLaws.{values-more, values-room}
+use Rattle.diagram.proofs.NumberLaws.{value-sums}
 use Rattle.diagram.specs.Lent.{Lent, lent, domain}
 use Rattle.diagram.specs.Numbers.{firstValue}
 use Rattle.encoder.proofs.values_before.Statement.{statement}
@@ -31,8 +31,8 @@ values-before-spec =
     (λ c. (c .pre .0 .0, c .pre .1 .0))
     (λ c. omega (arith, here c))
     (λ c. here (c .before))
-    (λ c. let t = c .before in omega (arith, t .before .loop .inv .1, values-room (d t) (t .before .loop .k) _ (here t), t .before .before .pre .1 .1))
+    (λ c. let t = c .before in omega (arith, t .before .loop .inv .1, value-sums (d t) .room (t .before .loop .k) _ (here t), t .before .before .pre .1 .1))
     (λ c. omega (arith, here (c .before)))
     (λ c. omega arith)
-    (λ c. let t = c .before in (omega (arith, t .loop-test .taken), omega (arith, t .before .loop .inv .1, values-more (d t) (t .before .loop .k))))
+    (λ c. let t = c .before in (omega (arith, t .loop-test .taken), omega (arith, t .before .loop .inv .1, value-sums (d t) .more (t .before .loop .k))))
     (λ c. let l = c .before .loop in let s = c .before .before in let q : l .k ≡ s .args .option = omega (arith, l .inv .0) in l .inv .1 ∙ ap (firstValue (lent (s .args .domains .now) [] [])) q))

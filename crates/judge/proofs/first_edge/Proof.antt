@@ -6,7 +6,7 @@ use native.Mathlib.Omega.{arith}
 use lib.ListN.{length}
 use Rattle.diagram.specs.Lent.{Lent, lent, layer, asked, width, firstEdge}
 use Rattle.diagram.specs.Sound.{Within}
-use Rattle.diagram.proofs.ShapedLaws.{layer-within, edges-more, edges-most}
+use Rattle.diagram.proofs.ShapedLaws.{layer-within, edge-sums, edges-most}
 use Rattle.judge.proofs.first_edge.Statement.{statement}
 use Rattle.judge.proofs.first_edge.Tie as tie
 
@@ -29,7 +29,7 @@ option : (t : tie.In-loop Inv-loop μ-loop) → Within 1 (length (start t .args 
 option t = layer-within (d t) (start t .pre .0) (t .before .loop .k) (node t)
 
 sum : (t : tie.In-loop Inv-loop μ-loop) → let l = t .before .loop in l .e + width (d t) (l .k) ≡ firstEdge (d t) (l .k + 1)
-sum t = ap (λ (n : ℕ). n + width (d t) (t .before .loop .k)) (t .before .loop .inv .1) ∙ sym (edges-more (d t) (t .before .loop .k))
+sum t = ap (λ (n : ℕ). n + width (d t) (t .before .loop .k)) (t .before .loop .inv .1) ∙ sym (edge-sums (d t) .more (t .before .loop .k))
 
 pub first-edge-spec : {M : Type 1} → statement M
 first-edge-spec =

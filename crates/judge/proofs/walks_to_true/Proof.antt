@@ -9,7 +9,7 @@ use lib.Dec.{eqb}
 use borrow.Author.Needs.{needs}
 use Rattle.diagram.specs.Lent.{Lent, lent, nodes, layer, asked, width, firstEdge, leads, target, chosen, end}
 use Rattle.diagram.specs.Sound.{Within, Sound}
-use Rattle.diagram.proofs.ShapedLaws.{layer-within, edges-none, edges-room, edges-most, reshaped, same-edges}
+use Rattle.diagram.proofs.ShapedLaws.{layer-within, edge-sums, edges-most, reshaped, same-edges}
 use Rattle.diagram.proofs.AllowsLaws.{Ranked, sound-ranked, later-node, later-is, end-of-end, next-later, end-step}
 use Rattle.judge.proofs.walks_to_true.Statement.{statement}
 use Rattle.judge.proofs.walks_to_true.Tie as tie
@@ -44,7 +44,7 @@ value : (t : tie.In-loop Inv-loop μ-loop) → x t (asked (d t) (t .before .loop
 value t = start t .pre .1 .in-domain (asked (d t) (t .before .loop .v)) (omega (arith, option t))
 
 edge : (t : tie.In-loop Inv-loop μ-loop) → t .before .loop .a + x t (asked (d t) (t .before .loop .v)) < length (start t .args .targets .now)
-edge t = omega (arith, value t, t .before .loop .inv .1, edges-room (d t) (t .before .loop .v) (nodes (d t)) (t .loop-test .taken), sound t .counted)
+edge t = omega (arith, value t, t .before .loop .inv .1, edge-sums (d t) .room (t .before .loop .v) (nodes (d t)) (t .loop-test .taken), sound t .counted)
 
 small : (t : tie.In-loop Inv-loop μ-loop) → t .before .loop .a + x t (asked (d t) (t .before .loop .v)) < 131072
 small t = omega (arith, edge t, sound t .counted, edges-most (d t) (sound t .shaped) (nodes (d t)) (le-refl _))
@@ -79,7 +79,7 @@ walks-to-true-spec =
     (tie.spec
     Inv-loop
     μ-loop
-    (λ c. (omega (arith, c .before .before .before .before .pre .0 .shaped .nodes-fit), sym (edges-none _), refl))
+    (λ c. (omega (arith, c .before .before .before .before .pre .0 .shaped .nodes-fit), sym (edge-sums _ .none), refl))
     (λ c. search needs)
     (λ c. search needs)
     (λ c. omega (arith, c .shared-slice-known5 .given (c .before .before .loop .v)))
