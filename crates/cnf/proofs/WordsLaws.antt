@@ -11,8 +11,8 @@ use lib.ListN.{length, getD, take, length-append}
 use lib.Seq.{take-suc, take-length}
 use Rattle.lists.specs.Signed.{isZero}
 use Rattle.lists.specs.Upto.{upTo, sumTo, countTo}
-use Rattle.lists.proofs.UptoLaws.{list-length, of-list}
-use Rattle.cnf.specs.Clause.{Clause, is, isnt, words}
+use Rattle.lists.proofs.UptoLaws.{list-length}
+use Rattle.cnf.specs.Clause.{Clause, words}
 use Rattle.cnf.specs.Words.{startWith, clausesOf, zeros, closed, NoZero, NoZeros}
 
 -- ---- words, clause by clause

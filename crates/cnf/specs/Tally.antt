@@ -2,8 +2,7 @@
 use mathlib.Core.Path.{_≡_, ap}
 use mathlib.Core.List.{List, [], _∷_}
 use Prim.Native.Nat.{ℕ}
-use lib.ListN.{length, getD}
-use Rattle.cnf.specs.Clause.{Clause, words}
+use lib.ListN.{getD}
 use Rattle.cnf.specs.declared.Tally.{Tally}
 
 abbrev pub tally : ℕ → ℕ → ℕ → Tally
@@ -12,10 +11,6 @@ tally w c v = record { words = w; clauses = c; variables = v }
 -- as a result's values
 abbrev pub tallySaid : Tally → List ℕ
 tallySaid t = t .words ∷ t .clauses ∷ t .variables ∷ []
-
--- what is to be said of clauses whose last variable is v
-abbrev pub tallyOf : List Clause → ℕ → Tally
-tallyOf cs v = tally (length (words cs)) (length cs) v
 
 pub tally-same : (w c v w′ c′ v′ : ℕ) → w ≡ w′ → c ≡ c′ → v ≡ v′ → tally w c v ≡ tally w′ c′ v′
 tally-same w c v w′ c′ v′ p q r = rw (p, q, r)

@@ -17,7 +17,7 @@ use Rattle.encoder.specs.Counts.{pairCount}
 use Rattle.encoder.specs.Promise.{ownTally, EncodePromise}
 use Rattle.encoder.specs.declared.EncodeAnswer.{EncodeAnswer}
 use Rattle.encoder.proofs.CountLaws.{pair-twice, clause-count, word-count, last-variable, clauses-most, words-most, variables-most}
-use Rattle.encoder.proofs.LiteralLaws.{literal-within, closed-list, zeros-list, clauses-back, word-within}
+use Rattle.encoder.proofs.LiteralLaws.{edition1-own, literal-within, closed-list, zeros-list, clauses-back, word-within}
 use Rattle.encoder.proofs.EncodeLaws.{written-exactly, written-list}
 use Rattle.demands.specs.Demand2.{Encoded, Counts, Numbers, Maxima, Attains, largest, WellFormed}
 use Rattle.demands.proofs.Flat.{Flat, flat-sound, flat-clauses, flat-words, flat-variables}
@@ -48,7 +48,7 @@ pub maxima : (d : Lent) → Sound d → Maxima d
 maxima d s = record { few-clauses = clauses-most d (s .shaped); few-words = words-most d (s .shaped); few-variables = variables-most d (s .shaped) }
 
 pub well-formed : (d : Lent) → Sound d → WellFormed d
-well-formed d s = record { literals = literal-within d s; words = word-within d s; all-closed = closed-list d; one-zero-each = zeros-list d s; told-back = clauses-back d s }
+well-formed d s = record { literals = literal-within edition1 d edition1-own s; words = word-within edition1 d edition1-own s; all-closed = closed-list edition1 d; one-zero-each = zeros-list edition1 d edition1-own s; told-back = clauses-back edition1 d edition1-own s }
 
 pub attained : Attains largest
 unfolding largest

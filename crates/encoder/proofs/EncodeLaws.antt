@@ -2,8 +2,7 @@
 -- due and none before it is; and else the words are the diagram's. Assumes nothing.
 use mathlib.Core.Path.{_≡_, refl, sym, _∙_, ap}
 use mathlib.Core.Logic.{_↔_}
-use mathlib.Core.Bool.{true, false}
-use mathlib.Core.List.{List, [], _∷_}
+use mathlib.Core.List.{List, []}
 use Prim.Native.Nat.{ℕ, _≤_, _<_}
 use native.Mathlib.Omega.{arith}
 use lib.ListN.{length, take, drop}
@@ -12,8 +11,6 @@ use lib.Dec.{ltb}
 use borrow.Author.Tests.{lt-ltb, le-ltb}
 use Rattle.lists.specs.First.{foundIf}
 use Rattle.lists.specs.Buffer.{over}
-use Rattle.lists.specs.declared.Found.{Found}
-use Rattle.lists.specs.declared.Found.the-variants.{Nothing, At}
 use Rattle.lists.proofs.FirstLaws.{Tests, tests-room}
 use Rattle.lists.proofs.BufferLaws.{over-take, over-drop}
 use Rattle.refusal.specs.Rules.{refusal, chain}
@@ -33,7 +30,7 @@ use Rattle.diagram.specs.Rules.{checkRules}
 use Rattle.diagram.specs.Promise.{countsOf}
 use Rattle.diagram.specs.declared.Diagram.{Diagram}
 use Rattle.diagram.proofs.SoundLaws.{check-faithful, passed-sound, sound-passed}
-use Rattle.encoder.specs.Clauses.{Edition, edition1, clauses, wordList, lastVariable}
+use Rattle.encoder.specs.Clauses.{Edition, edition1, clauses, wordList}
 use Rattle.encoder.specs.Emit.{Tallied}
 use Rattle.encoder.specs.Promise.{needed, ownTally, roomTable, encodeTable, roomRules, encodeRules, encodedSaid, EncodedBy, EncodePromise, encoded-said-once}
 use Rattle.encoder.specs.declared.Encoded.the-variants.{Written, Refused}

@@ -1,5 +1,5 @@
--- Every literal of a sound diagram's clauses is a variable from 1 to V, either way; and what follows for its words.
--- Assumes nothing.
+-- Every literal of a sound diagram's clauses is a variable from 1 to V, either way, in any edition whose option clauses
+-- speak of their own variables; and what follows for its words. Assumes nothing.
 use mathlib.Core.Path.{_≡_, refl}
 use mathlib.Core.Logic.{_⊎_, inl, inr}
 use mathlib.Core.Bool.{true, false}
@@ -20,10 +20,9 @@ use Rattle.diagram.specs.Lent.{Lent, options, nodes, domain, asked, width, targ
 use Rattle.diagram.specs.Numbers.{valueNumber, referenceNumber, firstValue, values, valueVariable, referenceVariable, edgeVariable}
 use Rattle.diagram.specs.Sound.{Within, Sound}
 use Rattle.diagram.proofs.ShapedLaws.{asked-in, edge-sums}
-use Rattle.diagram.proofs.NumberLaws.{target-most}
-use Rattle.encoder.specs.Clauses.{oneOf, pair, row, pairwise, edition1, ends, edgeClauses, nodeOf, lastVariable, optionOf, clauses, wordList}
+use Rattle.diagram.proofs.NumberLaws.{value-sums, target-most}
+use Rattle.encoder.specs.Clauses.{oneOf, pair, row, pairwise, Edition, edition1, ends, edgeClauses, nodeOf, firstHelper, lastVariable, optionOf, clauses, wordList}
 use Rattle.encoder.specs.Emit.{nodeClauses}
-use Rattle.encoder.proofs.CountLaws.{last-variable}
 
 -- ---- what holds of the variable of each literal
 
@@ -74,32 +73,45 @@ module _ (P : ℕ → Type 0) where
       clause-more (negated-more pv (one-of-literals e k pe))
       (every-upTo Literals k (λ j. edgeClauses (e j) v (m j) (x j)) (λ j h. edge-literals (pe j h) pv (pm j h) (px j h)))
 
--- ---- the variables of a sound diagram
+-- an edition's clauses of an option speak of its own values and helpers alone
+pub record OwnVariables (e : Edition) : Type 1 where
+  pub own : (P : ℕ → Type 0) (b h k : ℕ) → ((j : ℕ) → j < k → P (valueNumber b j)) → ((t : ℕ) → t < e .helpers k → P (suc (h + t))) → Every (Literals P) (e .option b h k)
 
-module _ (d : Lent) where
+pub edition1-own : OwnVariables edition1
+edition1-own = record { own = λ P b h k values helpers. option-literals P b k values }
+
+-- ---- the variables of a diagram
+
+module _ (e : Edition) (d : Lent) where
   abbrev pub Variable : ℕ → Type 0
-  Variable = Within 1 (lastVariable edition1 d)
+  Variable = Within 1 (lastVariable e d)
 
   pub value-within : (i j : ℕ) → i < options d → j < domain d i → Variable (valueVariable d i j)
-  unfolding firstValue
-  value-within i j h l = (omega arith, omega (arith, last-variable d, sum-within (domain d) i (options d) j h l))
+  unfolding firstHelper
+  value-within i j h l = (omega arith, omega (arith, value-sums d .room i (options d) h))
 
   pub reference-within : (r : ℕ) → r ≤ nodes d + 1 → Variable (referenceVariable d r)
-  reference-within r h = (omega arith, omega (arith, last-variable d))
+  unfolding firstHelper
+  reference-within r h = (omega arith, omega arith)
 
   pub edge-within : (v j : ℕ) → v < nodes d → j < width d v → Variable (edgeVariable d v j)
-  edge-within v j h l = (omega arith, omega (arith, last-variable d, edge-sums d .room v (nodes d) h))
+  unfolding firstHelper
+  edge-within v j h l = (omega arith, omega (arith, edge-sums d .room v (nodes d) h))
 
-  pub closed-list : closed (wordList edition1 d) ≡ true
+  pub helper-within : (i t : ℕ) → i < options d → t < e .helpers (domain d i) → Variable (suc (firstHelper e d i + t))
+  unfolding firstHelper
+  helper-within i t h l = (omega arith, omega (arith, sum-within (λ i. e .helpers (domain d i)) i (options d) t h l))
+
+  pub closed-list : closed (wordList e d) ≡ true
   unfolding wordList
-  closed-list = closed-words (clauses edition1 d)
+  closed-list = closed-words (clauses e d)
 
-  module _ (s : Sound d) where
-    pub literal-within : (c : Clause) → List·Memᴰ c (clauses edition1 d) → (l : ℤ) → List·Memᴰ l c → Within 1 (lastVariable edition1 d) (natAbs l)
+  module _ (ok : OwnVariables e) (s : Sound d) where
+    pub literal-within : (c : Clause) → List·Memᴰ c (clauses e d) → (l : ℤ) → List·Memᴰ l c → Within 1 (lastVariable e d) (natAbs l)
     unfolding clauses
     literal-within =
-        every-both All (upTo (options d) (optionOf edition1 d))
-        (every-upTo All (options d) (optionOf edition1 d) (λ i h. option-literals Variable (firstValue d i) (domain d i) (λ j l. value-within i j h l)))
+        every-both All (upTo (options d) (optionOf e d))
+        (every-upTo All (options d) (optionOf e d) (λ i h. ok .own Variable (firstValue d i) (firstHelper e d i) (domain d i) (λ j l. value-within i j h l) (λ t l. helper-within i t h l)))
         (every-both All (ends (values d))
         (ends-literals Variable (values d) (λ r h. reference-within r (omega (arith, s .shaped .nodes-fit))))
         (every-upTo All (nodes d) (nodeOf d) of-node))
@@ -114,7 +126,7 @@ module _ (d : Lent) where
             (λ j l. reference-within (target d v j) (target-most d s v j h l))
             (λ j l. value-within (asked d v) j (asked-in d (s .shaped) v h) l)
 
-    pub no-zeros : NoZeros (clauses edition1 d)
+    pub no-zeros : NoZeros (clauses e d)
     unfolding isZero
     no-zeros c m l n = go l (literal-within c m l n .0)
       where
@@ -123,18 +135,18 @@ module _ (d : Lent) where
         go (pos (suc n)) h = refl
         go (negsuc n) h = refl
 
-    pub zeros-list : zeros (wordList edition1 d) ≡ length (clauses edition1 d)
+    pub zeros-list : zeros (wordList e d) ≡ length (clauses e d)
     unfolding wordList
-    zeros-list = zeros-words (clauses edition1 d) no-zeros
+    zeros-list = zeros-words (clauses e d) no-zeros
 
-    pub clauses-back : clausesOf (wordList edition1 d) ≡ clauses edition1 d
+    pub clauses-back : clausesOf (wordList e d) ≡ clauses e d
     unfolding wordList
-    clauses-back = clauses-words (clauses edition1 d) no-zeros
+    clauses-back = clauses-words (clauses e d) no-zeros
 
-    pub word-within : (w : ℤ) → List·Memᴰ w (wordList edition1 d) → (w ≡ pos 0) ⊎ Within 1 (lastVariable edition1 d) (natAbs w)
+    pub word-within : (w : ℤ) → List·Memᴰ w (wordList e d) → (w ≡ pos 0) ⊎ Within 1 (lastVariable e d) (natAbs w)
     unfolding wordList
-    word-within w m = go (word-of (clauses edition1 d) m)
+    word-within w m = go (word-of (clauses e d) m)
       where
-        go : (w ≡ pos 0) ⊎ ((c : Clause) × List·Memᴰ c (clauses edition1 d) × List·Memᴰ w c) → (w ≡ pos 0) ⊎ Within 1 (lastVariable edition1 d) (natAbs w)
+        go : (w ≡ pos 0) ⊎ ((c : Clause) × List·Memᴰ c (clauses e d) × List·Memᴰ w c) → (w ≡ pos 0) ⊎ Within 1 (lastVariable e d) (natAbs w)
         go (inl e) = inl e
         go (inr t) = inr (literal-within (t .0) (t .1) w (t .2))

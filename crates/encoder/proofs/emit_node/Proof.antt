@@ -1,13 +1,12 @@
 -- `encoder::emit_node` meets its contract: T1, and then each edge. Assumes nothing.
 use mathlib.Core.List.{List, [], _∷_, _++_}
-use mathlib.Core.Path.{_≡_, refl, sym, ap}
-use Prim.Native.Nat.{ℕ, _≤_, _+_}
+use mathlib.Core.Path.{_≡_, refl, ap}
+use Prim.Native.Nat.{_≤_, _+_}
 use native.Mathlib.Omega.{arith}
 use lib.IntN.{ℤ}
 use lib.ListN.{length}
 use borrow.Author.Needs.{needs}
 use Rattle.lists.proofs.BufferLaws.{then, wrote-as, first-room, then-room, to-front}
-use Rattle.lists.specs.Buffer.{Wrote}
 use Rattle.lists.specs.Upto.{upTo}
 use Rattle.cnf.specs.Clause.{words}
 use Rattle.encoder.proofs.EmitLaws.{node-words}

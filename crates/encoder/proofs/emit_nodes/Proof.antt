@@ -1,25 +1,22 @@
 -- `encoder::emit_nodes` meets its contract: before turn v, the first v nodes stand there, i is an option not after that of node v, and edge is the first edge of node v. Assumes nothing.
-use mathlib.Core.List.{List, [], _∷_}
-use mathlib.Core.Path.{_∙_}
-use mathlib.Core.Path.{_≡_, refl, sym, ap}
-use Prim.Native.Nat.{ℕ, _≤_, _<_, _+_, _-_}
+use mathlib.Core.List.{List, []}
+use mathlib.Core.Path.{_∙_, _≡_, sym, ap}
+use Prim.Native.Nat.{_≤_, _<_, _+_, _-_}
 use native.Mathlib.Nat.{le-refl}
 use native.Mathlib.Omega.{arith}
 use lib.IntN.{ℤ}
-use lib.ListN.{length, getD}
-use lib.ListN.{take, drop}
+use lib.ListN.{length, take, drop}
 use Rattle.lists.proofs.BufferLaws.{kept, begin, turn, room, finish, wrote-as, part-room, front-in-part}
 use Rattle.lists.specs.Buffer.{Wrote}
 use Rattle.lists.specs.Upto.{upTo}
-use Rattle.cnf.specs.Clause.{Clause, words}
+use Rattle.cnf.specs.Clause.{words}
 use Rattle.diagram.proofs.NumberLaws.{value-sums, values-most, same-values}
 use Rattle.diagram.proofs.ShapedLaws.{layer-within, layers-rise, width-within, edge-sums, edges-most}
-use Rattle.diagram.specs.Lent.{Lent, lent, options, nodes, domain, layer, asked, width, firstEdge}
+use Rattle.diagram.specs.Lent.{Lent, lent, options, nodes, layer, asked, width, firstEdge}
 use Rattle.diagram.specs.Numbers.{firstValue, values}
-use Rattle.diagram.specs.Promise.{countsOf}
 use Rattle.diagram.specs.Sound.{Within, Sound}
 use Rattle.diagram.specs.declared.Diagram.{Diagram}
-use Rattle.encoder.proofs.EmitLaws.{each-room, each-wrote, part-length, part-small, part-node}
+use Rattle.encoder.proofs.EmitLaws.{each-room, each-wrote, part-small, part-node}
 use Rattle.encoder.specs.Clauses.{nodeOf}
 use Rattle.encoder.specs.Emit.{lentNode, Small}
 use Rattle.encoder.proofs.emit_nodes.Statement.{statement}

@@ -1,16 +1,13 @@
 -- `encoder::emit_option` meets its contract: the clause of all values, and then the pairs. Assumes nothing.
-use mathlib.Core.List.{List, [], _∷_}
-use mathlib.Core.List.{_++_}
-use mathlib.Core.Path.{_≡_, refl, sym, ap}
-use Prim.Native.Nat.{ℕ, _≤_, _<_, _+_, _-_}
+use mathlib.Core.List.{List, [], _∷_, _++_}
+use mathlib.Core.Path.{ap}
+use Prim.Native.Nat.{_≤_, _+_, _-_}
 use native.Mathlib.Omega.{arith}
 use lib.IntN.{ℤ}
-use lib.ListN.{length, getD}
+use lib.ListN.{length}
 use borrow.Author.Needs.{needs}
 use Rattle.lists.proofs.BufferLaws.{then, wrote-as, first-room, then-room}
-use Rattle.lists.specs.Buffer.{Wrote}
-use Rattle.lists.specs.Upto.{upTo}
-use Rattle.cnf.specs.Clause.{Clause, words}
+use Rattle.cnf.specs.Clause.{words}
 use Rattle.encoder.proofs.EmitLaws.{more-words}
 use Rattle.encoder.specs.Clauses.{allValues, pairs}
 use Rattle.encoder.proofs.emit_option.Statement.{statement}

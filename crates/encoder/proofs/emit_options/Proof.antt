@@ -1,15 +1,14 @@
 -- `encoder::emit_options` meets its contract: before turn i, the first i options stand there. Assumes nothing.
-use mathlib.Core.List.{List, [], _∷_}
-use mathlib.Core.Path.{_≡_, refl, sym, ap}
-use Prim.Native.Nat.{ℕ, _≤_, _<_, _+_, _-_}
+use mathlib.Core.List.{[]}
+use mathlib.Core.Path.{_≡_, sym, ap}
+use Prim.Native.Nat.{ℕ, _≤_, _+_, _-_}
 use native.Mathlib.Omega.{arith}
-use lib.IntN.{ℤ}
-use lib.ListN.{length, getD}
+use lib.ListN.{length}
 use borrow.Author.Needs.{needs}
 use Rattle.lists.proofs.BufferLaws.{kept, begin, turn, room, finish, wrote-as}
 use Rattle.lists.specs.Buffer.{Wrote}
 use Rattle.lists.specs.Upto.{upTo}
-use Rattle.cnf.specs.Clause.{Clause, words}
+use Rattle.cnf.specs.Clause.{words}
 use Rattle.diagram.proofs.NumberLaws.{value-sums}
 use Rattle.diagram.specs.Lent.{Lent, lent, domain}
 use Rattle.diagram.specs.Numbers.{firstValue}

@@ -1,10 +1,7 @@
 -- `encoder::emit_pairs` meets its contract: before turn i, the first i rows stand there. Assumes nothing.
-use mathlib.Core.List.{List, [], _∷_}
-use mathlib.Core.Path.{_≡_, refl, sym, ap}
-use Prim.Native.Nat.{ℕ, _≤_, _<_, _+_, _-_}
+use mathlib.Core.List.{List}
+use Prim.Native.Nat.{ℕ, _≤_, _-_}
 use native.Mathlib.Omega.{arith}
-use lib.IntN.{ℤ}
-use lib.ListN.{length, getD}
 use borrow.Author.Needs.{needs}
 use Rattle.lists.proofs.BufferLaws.{kept, begin, turn, room, finish}
 use Rattle.lists.specs.Buffer.{Wrote}

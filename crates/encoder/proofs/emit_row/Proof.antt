@@ -1,10 +1,8 @@
 -- `encoder::emit_row` meets its contract: before turn t, the first t pairs stand there. Assumes nothing.
 use mathlib.Core.List.{List, [], _∷_}
-use mathlib.Core.Path.{_≡_, refl, sym, ap}
-use Prim.Native.Nat.{ℕ, _≤_, _<_, _+_, _-_}
+use Prim.Native.Nat.{ℕ, _≤_, _+_, _-_}
 use native.Mathlib.Omega.{arith}
-use lib.IntN.{ℤ}
-use lib.ListN.{length, getD}
+use lib.ListN.{length}
 use borrow.Author.Needs.{needs}
 use Rattle.lists.proofs.BufferLaws.{kept, begin, turn, room, finish, wrote-as}
 use Rattle.lists.specs.Buffer.{Wrote}

@@ -1,8 +1,6 @@
 -- `encoder::emit_run` meets its contract: before turn j, the first j literals stand there. Assumes nothing.
-use mathlib.Core.List.{List}
-use mathlib.Core.List.{[], _∷_}
-use Prim.Native.Nat.{_≤_, _-_, _+_}
-use Prim.Native.Nat.{ℕ}
+use mathlib.Core.List.{List, [], _∷_}
+use Prim.Native.Nat.{_≤_, _-_, _+_, ℕ}
 use native.Mathlib.Omega.{arith}
 use lib.IntN.{ℤ}
 use borrow.Author.Needs.{needs}

@@ -1,5 +1,5 @@
 -- `encoder::emit_t1` meets its contract: the negation, the edges and the closing 0 one after the other. Assumes nothing.
-use Prim.Native.Nat.{ℕ, _+_}
+use Prim.Native.Nat.{_+_}
 use native.Mathlib.Omega.{arith}
 use borrow.Author.Needs.{needs}
 use Rattle.lists.proofs.BufferLaws.{then}

@@ -1,15 +1,13 @@
 -- `encoder::encode_sound` meets its contract: number 7, or the words. Assumes nothing.
 use mathlib.Core.Path.{_≡_, sym, ap, subst}
-use Prim.Native.Nat.{ℕ, _≤_}
+use Prim.Native.Nat.{_≤_}
 use native.Mathlib.Nat.{le-refl}
 use native.Mathlib.Omega.{arith}
-use lib.ListN.{length}
 use borrow.Author.Needs.{needs}
 use Rattle.cnf.specs.declared.Tally.{Tally}
 use Rattle.diagram.proofs.NumberLaws.{values-most}
 use Rattle.diagram.proofs.ShapedLaws.{edges-most}
 use Rattle.diagram.specs.Lent.{Lent, lent, options, nodes}
-use Rattle.diagram.specs.Promise.{countsOf}
 use Rattle.diagram.specs.declared.Diagram.{Diagram}
 use Rattle.encoder.proofs.CountLaws.{all-pairs-most}
 use Rattle.encoder.proofs.EncodeLaws.{own-tally, too-short, long-enough}

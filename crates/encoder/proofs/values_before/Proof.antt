@@ -1,11 +1,11 @@
 -- `encoder::values_before` meets its contract: before turn k, n values stand before option k. Assumes nothing.
 use mathlib.Core.List.{[]}
 use mathlib.Core.Path.{_≡_, ap, _∙_}
-use Prim.Native.Nat.{ℕ, _≤_, _<_, _+_, _-_}
+use Prim.Native.Nat.{_≤_, _<_, _-_}
 use native.Mathlib.Omega.{arith}
 use lib.ListN.{length}
 use Rattle.diagram.proofs.NumberLaws.{value-sums}
-use Rattle.diagram.specs.Lent.{Lent, lent, domain}
+use Rattle.diagram.specs.Lent.{Lent, lent}
 use Rattle.diagram.specs.Numbers.{firstValue}
 use Rattle.encoder.proofs.values_before.Statement.{statement}
 use Rattle.encoder.proofs.values_before.Tie as tie
