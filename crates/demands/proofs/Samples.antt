@@ -13,4 +13,4 @@ use Rattle.demands.specs.Samples.{Holds, samples}
 
 pub samples-hold : Each Holds samples
 unfolding sumTo upTo lastTo first chain words firstEdge step walk firstValue badLayer permits owner badTarget optionRules nodeRules targetRules checkRules firstHelper clauses wordList samples
-samples-hold = (refl, ((refl, refl, refl), ((refl, refl, refl), ((refl, refl, refl), (refl, (refl, (refl, (refl, (refl, (refl, tt))))))))))
+samples-hold = (refl, (refl, ((refl, refl, refl), (refl, ((refl, refl, refl), (refl, ((refl, refl, refl), (refl, (refl, (refl, (refl, (refl, (refl, tt)))))))))))))

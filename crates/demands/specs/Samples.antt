@@ -72,9 +72,12 @@ s1Words =
 
 unfoldable pub samples : List Sample
 samples =
-    lists s1 s1Words
+    passes s1
+    ∷ lists s1 s1Words
     ∷ counts s1 42 14 7
+    ∷ passes s2
     ∷ counts s2 24 9 5
+    ∷ passes s3
     ∷ counts s3 78 25 12
     ∷ allows s3 (0 ∷ 1 ∷ []) true
     ∷ allows s3 (1 ∷ 1 ∷ []) false
