@@ -1,2 +1,4 @@
+-- The laws of this crate that others cite. Assumes nothing.
 pub mod WordsLaws
 pub mod Propagation
+pub mod EncodedLaws

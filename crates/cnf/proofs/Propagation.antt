@@ -27,7 +27,7 @@ module _ (σ : Setting) where
   held-later l c h = record { lit = h .lit; among = List·Memᴰ·tail (h .among); true-there = h .true-there }
 
   -- a literal that says b of a variable, and holds, gives the variable the value b
-  pub said : (b : Bool) (u : ℕ) → holds σ (says b u) ≡ true → σ (suc u) ≡ b
+  pub said : (b : Bool) (u : ℕ) → holds σ (says b (suc u)) ≡ true → σ (suc u) ≡ b
   said true u h = h
   said false u h = go (σ (suc u)) h
     where

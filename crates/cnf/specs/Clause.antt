@@ -1,6 +1,5 @@
 -- Clauses over numbered variables, their words, what it is to satisfy them, and unit propagation.
--- A literal is an integer other than 0: a variable's number, negated for "not". A variable's slot is its number less one.
--- Assumes nothing.
+-- A literal is an integer other than 0: a variable's number, negated for "not". Assumes nothing.
 use mathlib.Core.Path.{_≡_}
 use mathlib.Core.Bool.{Bool, true, false, not}
 use mathlib.Core.List.{List, [], _∷_, _++_, List·Memᴰ}
@@ -17,17 +16,10 @@ plain n = pos n
 abbrev pub negated : ℕ → ℤ
 negated n = negℤ (pos n)
 
--- the same by its slot: `plain (suc u)` and `negated (suc u)`
-abbrev pub is : ℕ → ℤ
-is u = pos (suc u)
-
-abbrev pub isnt : ℕ → ℤ
-isnt u = negsuc u
-
 -- the literal that says of the variable what a truth value says
 abbrev pub says : Bool → ℕ → ℤ
-says true u = is u
-says false u = isnt u
+says true n = plain n
+says false n = negated n
 
 -- the words of a clause list: each clause's literals, then 0
 unfoldable pub words : List Clause → List ℤ

@@ -1,3 +1,4 @@
+-- What this crate defines. Assumes nothing.
 pub mod Clause
 pub mod Words
-pub mod Tally
+pub mod Encoded

@@ -12,20 +12,22 @@ use Rattle.lists.proofs.UptoLaws.{sum-same}
 use Rattle.diagram.specs.Lent.{Lent, options, nodes, domain, firstEdge, edges}
 use Rattle.diagram.specs.Numbers.{firstValue}
 use Rattle.diagram.specs.Sound.{Sound}
-use Rattle.encoder.specs.Clauses.{edition1, wordList}
-use Rattle.encoder.specs.Counts.{pairCount}
-use Rattle.encoder.specs.Promise.{ownTally, EncodePromise}
-use Rattle.encoder.specs.declared.EncodeAnswer.{EncodeAnswer}
+use Rattle.cnf.specs.Clause.{words}
+use Rattle.cnf.specs.declared.EncodeAnswer.{EncodeAnswer}
+use Rattle.cnf.proofs.EncodedLaws.{written-list}
+use Rattle.encoder.specs.Clauses.{edition1, clauses, lastVariable}
+use Rattle.encoder.specs.Emit.{pairCount}
+use Rattle.encoder.specs.Promise.{encodeRules, EncodePromise}
 use Rattle.encoder.proofs.CountLaws.{pair-twice, clause-count, word-count, last-variable, clauses-most, words-most, variables-most}
 use Rattle.encoder.proofs.LiteralLaws.{edition1-own, literal-within, closed-list, zeros-list, clauses-back, word-within}
-use Rattle.encoder.proofs.EncodeLaws.{written-exactly, written-list}
-use Rattle.demands.specs.Demand2.{Encoded, Counts, Numbers, Maxima, Attains, largest, WellFormed}
+use Rattle.encoder.proofs.EncodeLaws.{encode-written}
+use Rattle.demands.specs.Demand2.{ExactlyTheList, Counts, Numbers, Maxima, Attains, largest, WellFormed}
 use Rattle.demands.proofs.Flat.{Flat, flat-sound, flat-clauses, flat-words, flat-variables}
 
-pub exactly-the-list : (d : Lent) (before : List ℤ) (answer : EncodeAnswer) (after : List ℤ) → EncodePromise edition1 d before answer after → Sound d → length (wordList edition1 d) ≤ length before → Encoded d before answer after
+pub exactly-the-list : (d : Lent) (before : List ℤ) (answer : EncodeAnswer) (after : List ℤ) → EncodePromise edition1 d before answer after → Sound d → length (words (clauses edition1 d)) ≤ length before → ExactlyTheList edition1 d before answer after
 exactly-the-list d before answer after p s h =
-    let w = written-exactly edition1 d before answer after p (ownTally edition1 d) .1 ((s, h), refl) in
-    let l = written-list edition1 d before answer after p (ownTally edition1 d) w in
+    let w = encode-written edition1 d before answer after p _ .1 ((s, h), refl) in
+    let l = written-list (clauses edition1 d) (lastVariable edition1 d) before (encodeRules edition1 d (length before)) answer after p _ w in
     record { answered = w; the-words = l .0; the-rest = l .1 }
 
 thrice : (k : ℕ) → 3 * pairCount k ≡ 3 * k * (k - 1) / 2
@@ -47,8 +49,8 @@ numbers d = record { value = λ i j. omega arith; reference = λ r. omega arith;
 pub maxima : (d : Lent) → Sound d → Maxima d
 maxima d s = record { few-clauses = clauses-most d (s .shaped); few-words = words-most d (s .shaped); few-variables = variables-most d (s .shaped) }
 
-pub well-formed : (d : Lent) → Sound d → WellFormed d
-well-formed d s = record { literals = literal-within edition1 d edition1-own s; words = word-within edition1 d edition1-own s; all-closed = closed-list edition1 d; one-zero-each = zeros-list edition1 d edition1-own s; told-back = clauses-back edition1 d edition1-own s }
+pub well-formed : (d : Lent) → Sound d → WellFormed edition1 d
+well-formed d s = record { literals = literal-within edition1 d edition1-own s; each-word = word-within edition1 d edition1-own s; all-closed = closed-list edition1 d; one-zero-each = zeros-list edition1 d edition1-own s; told-back = clauses-back edition1 d edition1-own s }
 
 pub attained : Attains largest
 unfolding largest

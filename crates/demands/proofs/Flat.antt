@@ -6,12 +6,13 @@ use native.Mathlib.Omega.{arith}
 use lib.ListN.{length, getD, replicate, length-replicate, getD-replicate}
 use Rattle.lists.specs.Upto.{sumTo}
 use Rattle.lists.proofs.UptoLaws.{sum-same, sum-const}
+use Rattle.cnf.specs.Clause.{words}
 use Rattle.diagram.specs.Lent.{Lent, lent, options, nodes, domain, layer, width, firstEdge, edges}
 use Rattle.diagram.specs.Numbers.{firstValue, values}
 use Rattle.diagram.specs.Sound.{Within, LayerFits, Permitted, to-false, Sound}
-use Rattle.encoder.specs.Clauses.{edition1, clauses, wordList, lastVariable}
-use Rattle.encoder.specs.Counts.{pairCount}
-use Rattle.encoder.proofs.CountLaws.{clause-count, word-count, last-variable, clauses-by-pairs, words-by-pairs}
+use Rattle.encoder.specs.Clauses.{edition1, clauses, lastVariable}
+use Rattle.encoder.specs.Emit.{pairCount}
+use Rattle.encoder.proofs.CountLaws.{last-variable, clauses-by-pairs, words-by-pairs}
 
 sum-equal : (f : ℕ → ℕ) (c n m : ℕ) → n ≡ m → ((i : ℕ) → i < n → f i ≡ c) → sumTo n f ≡ c * m
 sum-equal f c n m e h = sum-same f (λ i. c) n h ∙ sum-const c n ∙ ap (λ (l : ℕ). c * l) e
@@ -88,10 +89,10 @@ module _ {n k s t : ℕ} (fits : Flat n k s t) where
       }
 
   pub flat-clauses : length (clauses edition1 flat) ≡ 3 + suc s + 4 * (k * suc s) + n + pairCount k * n
-  flat-clauses = omega (arith, clause-count flat, clauses-by-pairs flat, nodes-are, edges-are, options-are, pairs-are)
+  flat-clauses = omega (arith, clauses-by-pairs flat, nodes-are, edges-are, options-are, pairs-are)
 
-  pub flat-words : length (wordList edition1 flat) ≡ 6 + 2 * suc s + 14 * (k * suc s) + k * n + n + 3 * (pairCount k * n)
-  flat-words = omega (arith, word-count flat, words-by-pairs flat, nodes-are, edges-are, values-are, options-are, pairs-are)
+  pub flat-words : length (words (clauses edition1 flat)) ≡ 6 + 2 * suc s + 14 * (k * suc s) + k * n + n + 3 * (pairCount k * n)
+  flat-words = omega (arith, words-by-pairs flat, nodes-are, edges-are, values-are, options-are, pairs-are)
 
   pub flat-variables : lastVariable edition1 flat ≡ k * n + suc s + 2 + k * suc s
   flat-variables = omega (arith, last-variable flat, nodes-are, edges-are, values-are)

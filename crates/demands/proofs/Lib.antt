@@ -1,3 +1,4 @@
+-- The theorems of the demands, and the samples. Assumes nothing.
 pub mod Flat
 pub mod Demand2
 pub mod Samples

@@ -8,9 +8,9 @@ use Rattle.cnf.specs.Clause.{words}
 use Rattle.diagram.specs.Lent.{firstEdge, step, walk}
 use Rattle.diagram.specs.Numbers.{firstValue}
 use Rattle.diagram.specs.Rules.{badLayer, permits, owner, badTarget, optionRules, nodeRules, targetRules, checkRules}
-use Rattle.encoder.specs.Clauses.{firstHelper, clauses, wordList}
+use Rattle.encoder.specs.Clauses.{firstHelper, clauses}
 use Rattle.demands.specs.Samples.{Holds, samples}
 
 pub samples-hold : Each Holds samples
-unfolding sumTo upTo lastTo first chain words firstEdge step walk firstValue badLayer permits owner badTarget optionRules nodeRules targetRules checkRules firstHelper clauses wordList samples
-samples-hold = (refl, (refl, ((refl, refl, refl), (refl, ((refl, refl, refl), (refl, ((refl, refl, refl), (refl, (refl, (refl, (refl, (refl, (refl, tt)))))))))))))
+unfolding sumTo upTo lastTo first chain words firstEdge step walk firstValue badLayer permits owner badTarget optionRules nodeRules targetRules checkRules firstHelper clauses samples
+samples-hold = (refl, (refl, ((refl, refl, refl), (refl, ((refl, refl, refl), (refl, ((refl, refl, refl), (refl, (refl, (refl, (refl, (refl, (refl, (refl, tt))))))))))))))

@@ -1,6 +1,6 @@
 -- Demand 2: `encode` writes exactly the list of edition 1; how many clauses, words and variables it has, which variable
--- has which number, and that its words are clauses over those variables. The list itself is `clauses`, and its words
--- `wordList`, of the encoder's Clauses. Assumes nothing.
+-- has which number, and that its words are clauses over those variables. The list itself is `clauses` of the encoder's
+-- Clauses. Assumes nothing.
 use mathlib.Core.Path.{_≡_}
 use mathlib.Core.Logic.{_⊎_}
 use mathlib.Core.Bool.{true}
@@ -9,22 +9,22 @@ use Prim.Native.Nat.{ℕ, _+_, _-_, _*_, _/_, _≤_}
 use lib.IntN.{ℤ, pos, natAbs}
 use lib.ListN.{length, take, drop, replicate}
 use Rattle.lists.specs.Upto.{sumTo}
-use Rattle.cnf.specs.Clause.{Clause}
-use Rattle.cnf.specs.Tally.{tally}
+use Rattle.cnf.specs.Clause.{Clause, words}
+use Rattle.cnf.specs.Encoded.{tally}
 use Rattle.cnf.specs.Words.{clausesOf, zeros, closed}
 use Rattle.diagram.specs.Lent.{Lent, lent, options, nodes, domain, layer}
 use Rattle.diagram.specs.Numbers.{valueVariable, referenceVariable, edgeVariable}
 use Rattle.diagram.specs.Sound.{Within, Sound}
-use Rattle.encoder.specs.Clauses.{edition1, lastVariable, clauses, wordList}
-use Rattle.encoder.specs.declared.Encoded.the-variants.{Written}
-use Rattle.encoder.specs.declared.EncodeAnswer.{EncodeAnswer}
+use Rattle.cnf.specs.declared.Encoded.the-variants.{Written}
+use Rattle.cnf.specs.declared.EncodeAnswer.{EncodeAnswer}
+use Rattle.encoder.specs.Clauses.{Edition, edition1, lastVariable, clauses}
 
 -- what `encode` has done where the diagram is sound and its words fit: it has answered with the list's own counts, the
 -- buffer begins with exactly the list's words, and holds what it held past them
-pub record Encoded (d : Lent) (before : List ℤ) (answer : EncodeAnswer) (after : List ℤ) : Type 0 where
-  pub answered : answer .outcome ≡ Written (tally (length (wordList edition1 d)) (length (clauses edition1 d)) (lastVariable edition1 d))
-  pub the-words : take (length (wordList edition1 d)) after ≡ wordList edition1 d
-  pub the-rest : drop (length (wordList edition1 d)) after ≡ drop (length (wordList edition1 d)) before
+pub record ExactlyTheList (e : Edition) (d : Lent) (before : List ℤ) (answer : EncodeAnswer) (after : List ℤ) : Type 0 where
+  pub answered : answer .outcome ≡ Written (tally (length (words (clauses e d))) (length (clauses e d)) (lastVariable e d))
+  pub the-words : take (length (words (clauses e d))) after ≡ words (clauses e d)
+  pub the-rest : drop (length (words (clauses e d))) after ≡ drop (length (words (clauses e d))) before
 
 module _ (d : Lent) where
   -- the sum of the domains
@@ -43,7 +43,7 @@ module _ (d : Lent) where
 pub record Counts (d : Lent) : Type 0 where
   pub last-variable : lastVariable edition1 d ≡ D d + nodes d + 2 + E d
   pub clause-count : length (clauses edition1 d) ≡ 3 + nodes d + 4 * E d + sumTo (options d) (λ i. 1 + domain d i * (domain d i - 1) / 2)
-  pub word-count : length (wordList edition1 d) ≡ 6 + 2 * nodes d + 14 * E d + sumTo (options d) (λ i. domain d i + 1 + 3 * domain d i * (domain d i - 1) / 2)
+  pub word-count : length (words (clauses edition1 d)) ≡ 6 + 2 * nodes d + 14 * E d + sumTo (options d) (λ i. domain d i + 1 + 3 * domain d i * (domain d i - 1) / 2)
 
 -- the table of variables; options, nodes, edges and values count from 0
 pub record Numbers (d : Lent) : Type 0 where
@@ -54,25 +54,25 @@ pub record Numbers (d : Lent) : Type 0 where
 -- how large they can be
 pub record Maxima (d : Lent) : Type 0 where
   pub few-clauses : length (clauses edition1 d) ≤ 560195
-  pub few-words : length (wordList edition1 d) ≤ 1940550
+  pub few-words : length (words (clauses edition1 d)) ≤ 1940550
   pub few-variables : lastVariable edition1 d ≤ 137218
 
 -- a sound diagram that has as many as there can be
 pub record Attains (d : Lent) : Type 0 where
   pub sound : Sound d
   pub all-clauses : length (clauses edition1 d) ≡ 560195
-  pub all-words : length (wordList edition1 d) ≡ 1940550
+  pub all-words : length (words (clauses edition1 d)) ≡ 1940550
   pub all-variables : lastVariable edition1 d ≡ 137218
 
 -- 64 options of 32 values; a root and 4,095 nodes of layer 2; every edge leads to F
 unfoldable pub largest : Lent
 largest = lent (replicate 64 32) (1 ∷ replicate 4095 2) (replicate 131072 0)
 
--- every literal is a variable from 1 to V, either way; the words are 0 and literals, every clause is closed by its 0, and
--- the clauses can be told from the words
-pub record WellFormed (d : Lent) : Type 0 where
-  pub literals : (c : Clause) → List·Memᴰ c (clauses edition1 d) → (l : ℤ) → List·Memᴰ l c → Within 1 (lastVariable edition1 d) (natAbs l)
-  pub words : (w : ℤ) → List·Memᴰ w (wordList edition1 d) → (w ≡ pos 0) ⊎ Within 1 (lastVariable edition1 d) (natAbs w)
-  pub all-closed : closed (wordList edition1 d) ≡ true
-  pub one-zero-each : zeros (wordList edition1 d) ≡ length (clauses edition1 d)
-  pub told-back : clausesOf (wordList edition1 d) ≡ clauses edition1 d
+-- every literal is a variable from 1 to V, either way; every word is 0 or such a literal, every clause is closed by its 0,
+-- and the clauses can be told from the words
+pub record WellFormed (e : Edition) (d : Lent) : Type 0 where
+  pub literals : (c : Clause) → List·Memᴰ c (clauses e d) → (l : ℤ) → List·Memᴰ l c → Within 1 (lastVariable e d) (natAbs l)
+  pub each-word : (w : ℤ) → List·Memᴰ w (words (clauses e d)) → (w ≡ pos 0) ⊎ Within 1 (lastVariable e d) (natAbs w)
+  pub all-closed : closed (words (clauses e d)) ≡ true
+  pub one-zero-each : zeros (words (clauses e d)) ≡ length (clauses e d)
+  pub told-back : clausesOf (words (clauses e d)) ≡ clauses e d

@@ -7,11 +7,11 @@ use lib.IntN.{ℤ, pos}
 use lib.ListN.{length, replicate}
 use Rattle.refusal.specs.Rules.{refusal, chain}
 use Rattle.refusal.specs.declared.Verdict.the-variants.{Passed, Refused}
-use Rattle.cnf.specs.Clause.{plain, negated}
+use Rattle.cnf.specs.Clause.{plain, negated, words}
 use Rattle.diagram.specs.Lent.{Lent, lent}
 use Rattle.diagram.specs.Rules.{checkRules}
 use Rattle.judge.specs.Promise.{allowsTest}
-use Rattle.encoder.specs.Clauses.{edition1, lastVariable, clauses, wordList}
+use Rattle.encoder.specs.Clauses.{edition1, lastVariable, clauses}
 
 pub data Sample : Type 0 where
   -- the diagram's words are these
@@ -26,8 +26,8 @@ pub data Sample : Type 0 where
   passes : Lent → Sample
 
 abbrev pub Holds : Sample → Type 0
-Holds (lists d ws) = wordList edition1 d ≡ ws
-Holds (counts d w c v) = (length (wordList edition1 d) ≡ w) × (length (clauses edition1 d) ≡ c) × (lastVariable edition1 d ≡ v)
+Holds (lists d ws) = words (clauses edition1 d) ≡ ws
+Holds (counts d w c v) = (length (words (clauses edition1 d)) ≡ w) × (length (clauses edition1 d) ≡ c) × (lastVariable edition1 d ≡ v)
 Holds (allows d build a) = allowsTest d build ≡ a
 Holds (refused d n p) = chain (checkRules d) ≡ Refused (refusal n p)
 Holds (passes d) = chain (checkRules d) ≡ Passed
@@ -82,6 +82,7 @@ samples =
     ∷ allows s3 (0 ∷ 1 ∷ []) true
     ∷ allows s3 (1 ∷ 1 ∷ []) false
     ∷ refused (s5 (1 ∷ 0 ∷ 0 ∷ 1 ∷ [])) 6 0
+    ∷ refused (s5 (1 ∷ 0 ∷ 0 ∷ [])) 5 0
     ∷ refused (s6 (2 ∷ 0 ∷ [])) 2 1
     ∷ refused (fan 33) 2 0
     ∷ passes (fan 32)

@@ -1,3 +1,4 @@
+-- What this crate defines. Assumes nothing.
 pub mod Lent
 pub mod Sound
 pub mod Rules

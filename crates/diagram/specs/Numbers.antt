@@ -16,7 +16,7 @@ referenceNumber D r = suc (D + r)
 abbrev pub edgeNumber : ℕ → ℕ → ℕ → ℕ
 edgeNumber D s e = suc (D + s + 2 + e)
 
--- V: the last variable's number
+-- the last edge's number: V, where no helper variables follow
 abbrev pub lastNumber : ℕ → ℕ → ℕ → ℕ
 lastNumber D s E = D + s + 2 + E
 
@@ -38,6 +38,6 @@ module _ (d : Lent) where
   abbrev pub edgeVariable : ℕ → ℕ → ℕ
   edgeVariable v j = edgeNumber values (nodes d) (firstEdge d v + j)
 
-  -- V
+  -- the last number of values, references and edges
   abbrev pub variables : ℕ
   variables = lastNumber values (nodes d) (edges d)

@@ -63,7 +63,7 @@ impl Diagram {
         self.values as u64 + self.nodes as u64 + 3 + edge as u64
     }
 
-    // V: the last variable.
+    // The last variable of values, references and edges: V, where no helper variables follow.
     pub fn variables(self) -> u64
         ensures { λ r. ⌜ r ≡ lastNumber (self .values) (self .nodes) (self .edges) ⌝ }
     {

@@ -18,15 +18,15 @@ use Rattle.diagram.specs.Sound.{Sound}
 use Rattle.diagram.specs.Numbers.{valueNumber, referenceNumber, edgeNumber, firstValue, values, valueVariable, referenceVariable}
 use Rattle.diagram.proofs.ShapedLaws.{asked-in, edge-sums, edges-most}
 use Rattle.diagram.proofs.NumberLaws.{value-sums, values-most, target-most}
-use Rattle.encoder.specs.Clauses.{oneOf, allValues, pair, edition1, optionOf, ends, edgeClauses, t1, nodeOf, clauses, wordList}
-use Rattle.encoder.specs.Emit.{nodeClauses, lentEdge, lentNode, Small}
+use Rattle.encoder.specs.Clauses.{oneOf, allValues, pair, edition1, units, t2to5, t1, t1to5, nodeClauses, optionClauses, clauses}
+use Rattle.encoder.specs.Emit.{lentEdge, lentNode, Small}
 
 -- ---- lengths
 
 pub run-length : (f : ℕ → ℕ) (k : ℕ) → length (oneOf f k) ≡ k
 run-length f k = list-singles k (λ j. plain (f j))
 
-pub edge-length : (e v m x : ℕ) → length (words (edgeClauses e v m x)) ≡ 13
+pub edge-length : (e v m x : ℕ) → length (words (t2to5 e v m x)) ≡ 13
 unfolding words
 edge-length e v m x = refl
 
@@ -35,10 +35,10 @@ t1-length v e k = omega (arith, length-more (t1 v e k) [], ap length words-none,
 
 -- ---- other numbers
 
-pub run-same : (f g : ℕ → ℕ) (k : ℕ) → ((j : ℕ) → f j ≡ g j) → oneOf f k ≡ oneOf g k
+run-same : (f g : ℕ → ℕ) (k : ℕ) → ((j : ℕ) → f j ≡ g j) → oneOf f k ≡ oneOf g k
 run-same f g k h = list-same (λ j. plain (f j) ∷ []) (λ j. plain (g j) ∷ []) k (λ j l. ap (λ (n : ℕ). plain n ∷ []) (h j))
 
-pub edge-same : (v : ℕ) {e m x e′ m′ x′ : ℕ} → e ≡ e′ → m ≡ m′ → x ≡ x′ → words (edgeClauses e v m x) ≡ words (edgeClauses e′ v m′ x′)
+pub edge-same : (v : ℕ) {e m x e′ m′ x′ : ℕ} → e ≡ e′ → m ≡ m′ → x ≡ x′ → words (t2to5 e v m x) ≡ words (t2to5 e′ v m′ x′)
 edge-same v p q r = rw (p, q, r)
 
 -- ---- blocks of clauses, one after the other
@@ -73,35 +73,34 @@ pair-words b i j p q = rw (p, q)
 
 -- ---- T, not F, root
 
-pub ends-words : (D : ℕ) {t f r : ℕ} → t ≡ referenceNumber D 1 → f ≡ referenceNumber D 0 → r ≡ referenceNumber D 2 → plain t ∷ pos 0 ∷ negated f ∷ pos 0 ∷ plain r ∷ pos 0 ∷ [] ≡ words (ends D)
+pub units-words : (D : ℕ) {t f r : ℕ} → t ≡ referenceNumber D 1 → f ≡ referenceNumber D 0 → r ≡ referenceNumber D 2 → plain t ∷ pos 0 ∷ negated f ∷ pos 0 ∷ plain r ∷ pos 0 ∷ [] ≡ words (units D)
 unfolding words
-ends-words D p q r = rw (p, q, r)
+units-words D p q r = rw (p, q, r)
 
 -- ---- a node's words: T1, and then each edge's
 
 module _ (D s b edge : ℕ) (ts : List ℕ) (v : ℕ) {node first k : ℕ} (p : node ≡ referenceNumber D (v + 2)) (q : first ≡ edgeNumber D s edge) (r : k ≡ length ts) where
-  pub node-words : words (t1 node (λ j. first + j) k ∷ []) ++ upTo (length ts) (lentEdge D s b edge ts node) ≡ words (lentNode D s b edge ts v)
-  node-words =
-      ap (λ (c : Clause). words (c ∷ []) ++ upTo (length ts) (lentEdge D s b edge ts node)) heads
-      ∙ ap (λ (n : ℕ). words (t1 n (λ j. edgeNumber D s (edge + j)) (length ts) ∷ []) ++ upTo (length ts) (lentEdge D s b edge ts n)) p
-      ∙ ap (λ (ws : List ℤ). words (t1 (referenceNumber D (v + 2)) (λ j. edgeNumber D s (edge + j)) (length ts) ∷ []) ++ ws) (sym (words-upTo (length ts) (λ j. edgeClauses (edgeNumber D s (edge + j)) (referenceNumber D (v + 2)) (referenceNumber D (getD ts j 0)) (valueNumber b j))))
-      ∙ more-words (t1 (referenceNumber D (v + 2)) (λ j. edgeNumber D s (edge + j)) (length ts)) (upTo (length ts) (λ j. edgeClauses (edgeNumber D s (edge + j)) (referenceNumber D (v + 2)) (referenceNumber D (getD ts j 0)) (valueNumber b j)))
+  pub lent-words : words (t1 node (λ j. first + j) k ∷ []) ++ words (upTo (length ts) (lentEdge D s b edge ts node)) ≡ words (lentNode D s b edge ts v)
+  lent-words =
+      ap (λ (c : Clause). words (c ∷ []) ++ words (upTo (length ts) (lentEdge D s b edge ts node))) heads
+      ∙ ap (λ (n : ℕ). words (t1 n (λ j. edgeNumber D s (edge + j)) (length ts) ∷ []) ++ words (upTo (length ts) (lentEdge D s b edge ts n))) p
+      ∙ more-words (t1 (referenceNumber D (v + 2)) (λ j. edgeNumber D s (edge + j)) (length ts)) (upTo (length ts) (lentEdge D s b edge ts (referenceNumber D (v + 2))))
     where
       heads : t1 node (λ j. first + j) k ≡ t1 node (λ j. edgeNumber D s (edge + j)) (length ts)
       heads = ap (λ (c : Clause). negated node ∷ c) (run-same (λ j. first + j) (λ j. edgeNumber D s (edge + j)) k (λ j. omega arith) ∙ ap (λ (n : ℕ). oneOf (λ j. edgeNumber D s (edge + j)) n) r)
 
 -- ---- the whole list
 
-pub ends-length : (D : ℕ) → length (words (ends D)) ≡ 6
+pub units-length : (D : ℕ) → length (words (units D)) ≡ 6
 unfolding words
-ends-length D = refl
+units-length D = refl
 
-pub list-words : (ds ls ts : List ℕ) {D : ℕ} → D ≡ values (lent ds ls ts) → words (upTo (length ds) (optionOf edition1 (lent ds [] []))) ++ (words (ends D) ++ words (upTo (length ls) (nodeOf (lent ds ls ts)))) ≡ wordList edition1 (lent ds ls ts)
-unfolding wordList clauses firstValue
+pub list-words : (ds ls ts : List ℕ) {D : ℕ} → D ≡ values (lent ds ls ts) → words (upTo (length ds) (optionClauses edition1 (lent ds [] []))) ++ (words (units D) ++ words (upTo (length ls) (nodeClauses (lent ds ls ts)))) ≡ words (clauses edition1 (lent ds ls ts))
+unfolding clauses firstValue
 list-words ds ls ts e =
     let d = lent ds ls ts in
     rw e
-    (sym (words-append (upTo (options d) (optionOf edition1 d)) (ends (values d) ++ upTo (nodes d) (nodeOf d)) ∙ ap (λ (ws : List ℤ). words (upTo (options d) (optionOf edition1 d)) ++ ws) (words-append (ends (values d)) (upTo (nodes d) (nodeOf d)))))
+    (sym (words-append (upTo (options d) (optionClauses edition1 d)) (units (values d) ++ upTo (nodes d) (nodeClauses d)) ∙ ap (λ (ws : List ℤ). words (upTo (options d) (optionClauses edition1 d)) ++ ws) (words-append (units (values d)) (upTo (nodes d) (nodeClauses d)))))
 
 -- ---- node v of a sound diagram, by the part of the targets that is lent to its emitter
 
@@ -112,7 +111,7 @@ module _ (d : Lent) (s : Sound d) {D n : ℕ} (eD : D ≡ values d) (en : n ≡ 
   within : firstEdge d v + width d v ≤ length (d .targets)
   within = omega (arith, s .counted, edge-sums d .room v (nodes d) h)
 
-  pub part-length : length part ≡ width d v
+  part-length : length part ≡ width d v
   part-length = length-take-le (edge + width d v - edge) (drop edge (d .targets)) (omega (arith, within, length-drop edge (d .targets))) ∙ omega arith
 
   part-target : (j : ℕ) → j < width d v → getD part j 0 ≡ target d v j
@@ -130,10 +129,10 @@ module _ (d : Lent) (s : Sound d) {D n : ℕ} (eD : D ≡ values d) (en : n ≡ 
     few-targets = λ j l. let k : j < width d v = omega (arith, part-length) in omega (arith, part-target j k, target-most d s v j h k, s .shaped .nodes-fit);
   }
 
-  pub part-node : lentNode D n b edge part v ≡ nodeOf d v
+  pub part-node : lentNode D n b edge part v ≡ nodeClauses d v
   part-node =
       let two : v + 2 ≡ suc (suc v) = omega arith in
       rw (eD, en, eb, part-length, two)
       (ap (λ (cs : List Clause). t1 (referenceVariable d (suc (suc v))) (λ j. edgeNumber (values d) (nodes d) (edge + j)) (width d v) ∷ cs)
-      (list-same _ _ (width d v) (λ j l. ap (λ (m : ℕ). edgeClauses (edgeNumber (values d) (nodes d) (edge + j)) (referenceVariable d (suc (suc v))) (referenceVariable d m) (valueVariable d (asked d v) j)) (part-target j l)))
-      ∙ ap (λ (e : ℕ). nodeClauses (referenceVariable d (suc (suc v))) (λ j. edgeNumber (values d) (nodes d) (e + j)) (λ j. referenceVariable d (target d v j)) (λ j. valueVariable d (asked d v) j) (width d v)) ee)
+      (list-same _ _ (width d v) (λ j l. ap (λ (m : ℕ). t2to5 (edgeNumber (values d) (nodes d) (edge + j)) (referenceVariable d (suc (suc v))) (referenceVariable d m) (valueVariable d (asked d v) j)) (part-target j l)))
+      ∙ ap (λ (e : ℕ). t1to5 (referenceVariable d (suc (suc v))) (λ j. edgeNumber (values d) (nodes d) (e + j)) (λ j. t2to5 (edgeNumber (values d) (nodes d) (e + j)) (referenceVariable d (suc (suc v))) (referenceVariable d (target d v j)) (valueVariable d (asked d v) j)) (width d v)) ee)

@@ -1,3 +1,4 @@
+-- The laws of this crate that others cite. Assumes nothing.
 pub mod EmitLaws
 pub mod CountLaws
 pub mod LiteralLaws

@@ -2,9 +2,8 @@
 -- v has the reference v + 2. Assumes nothing.
 use mathlib.Core.List.{List, [], _∷_, _++_}
 use Prim.Native.Nat.{ℕ, suc, _+_, _-_}
-use lib.IntN.{ℤ}
 use Rattle.lists.specs.Upto.{sumTo, upTo}
-use Rattle.cnf.specs.Clause.{Clause, plain, negated, words}
+use Rattle.cnf.specs.Clause.{Clause, plain, negated}
 use Rattle.diagram.specs.Lent.{Lent, options, nodes, domain, asked, width, target}
 use Rattle.diagram.specs.Numbers.{valueNumber, referenceNumber, firstValue, values, valueVariable, referenceVariable, edgeVariable, variables}
 
@@ -22,21 +21,25 @@ allValues b k = oneOf (λ j. valueNumber b j) k
 abbrev pub pair : ℕ → ℕ → ℕ → Clause
 pair b i j = negated (valueNumber b i) ∷ negated (valueNumber b j) ∷ []
 
--- value i with each of the n values after it, and so for each value: the pairs i < j, i first and then j
-abbrev pub row : ℕ → ℕ → ℕ → List Clause
-row b i n = upTo n (λ t. pair b i (i + 1 + t) ∷ [])
+-- value i with each of the n values after it
+abbrev pub pairsAfter : ℕ → ℕ → ℕ → List Clause
+pairsAfter b i n = upTo n (λ t. pair b i (i + 1 + t) ∷ [])
 
+-- each value with those after it: the pairs i < j, i first and then j
 abbrev pub pairs : ℕ → ℕ → List Clause
-pairs b k = upTo k (λ i. row b i (k - 1 - i))
+pairs b k = upTo k (λ i. pairsAfter b i (k - 1 - i))
 
 abbrev pub pairwise : ℕ → ℕ → List Clause
 pairwise b k = allValues b k ∷ pairs b k
 
--- an edition of the rules says "exactly one" in its own way: how many variables of its own k values have as helpers, and
--- the clauses of k values, where b variables stand before the values and h before the helpers
+-- an edition of the rules says "exactly one" in its own way. `helpers k`: how many helper variables an option of k values
+-- has. `option b h k`: its clauses, where b variables stand before its values and h before its helpers
 pub record Edition : Type 0 where
   pub helpers : ℕ → ℕ
   pub option : ℕ → ℕ → ℕ → List Clause
+
+abbrev pub helperNumber : ℕ → ℕ → ℕ
+helperNumber h t = suc (h + t)
 
 -- edition 1: all values, then pairs; no helpers
 abbrev pub edition1 : Edition
@@ -44,10 +47,10 @@ edition1 = record { helpers = λ k. 0; option = λ b h k. pairwise b k }
 
 -- ---- T, not F, root, where there are D values
 
-abbrev pub ends : ℕ → List Clause
-ends D = (plain (referenceNumber D 1) ∷ []) ∷ (negated (referenceNumber D 0) ∷ []) ∷ (plain (referenceNumber D 2) ∷ []) ∷ []
+abbrev pub units : ℕ → List Clause
+units D = (plain (referenceNumber D 1) ∷ []) ∷ (negated (referenceNumber D 0) ∷ []) ∷ (plain (referenceNumber D 2) ∷ []) ∷ []
 
--- ---- an edge e of the node v, with target m and value variable x
+-- ---- an edge: e is its variable's number, v its node's, m its target's and x its value's
 
 abbrev pub t2 : ℕ → ℕ → Clause
 t2 e v = negated e ∷ plain v ∷ []
@@ -61,23 +64,26 @@ t4 e x = negated e ∷ plain x ∷ []
 abbrev pub t5 : ℕ → ℕ → ℕ → Clause
 t5 e m x = negated m ∷ negated x ∷ plain e ∷ []
 
-abbrev pub edgeClauses : ℕ → ℕ → ℕ → ℕ → List Clause
-edgeClauses e v m x = t2 e v ∷ t3 e m ∷ t4 e x ∷ t5 e m x ∷ []
+abbrev pub t2to5 : ℕ → ℕ → ℕ → ℕ → List Clause
+t2to5 e v m x = t2 e v ∷ t3 e m ∷ t4 e x ∷ t5 e m x ∷ []
 
--- ---- a node v of k edges, where e gives their numbers
+-- ---- a node of k edges: v is its variable's number, f gives its edges', and each edge j has the clauses g j
 
 abbrev pub t1 : ℕ → (ℕ → ℕ) → ℕ → Clause
-t1 v e k = negated v ∷ oneOf e k
+t1 v f k = negated v ∷ oneOf f k
+
+abbrev pub t1to5 : ℕ → (ℕ → ℕ) → (ℕ → List Clause) → ℕ → List Clause
+t1to5 v f g k = t1 v f k ∷ upTo k g
 
 -- ---- a diagram
 
--- T2 to T5 of the edge of value j of node v
-abbrev pub edgeOf : Lent → ℕ → ℕ → List Clause
-edgeOf d v j = edgeClauses (edgeVariable d v j) (referenceVariable d (suc (suc v))) (referenceVariable d (target d v j)) (valueVariable d (asked d v) j)
+-- of the edge of value j of node v
+abbrev pub edgeClauses : Lent → ℕ → ℕ → List Clause
+edgeClauses d v j = t2to5 (edgeVariable d v j) (referenceVariable d (suc (suc v))) (referenceVariable d (target d v j)) (valueVariable d (asked d v) j)
 
--- T1 of node v, and then each of its edges in value order
-abbrev pub nodeOf : Lent → ℕ → List Clause
-nodeOf d v = t1 (referenceVariable d (suc (suc v))) (λ j. edgeVariable d v j) (width d v) ∷ upTo (width d v) (λ j. edgeOf d v j)
+-- of node v: T1, and then T2 to T5 of each of its edges in value order
+abbrev pub nodeClauses : Lent → ℕ → List Clause
+nodeClauses d v = t1to5 (referenceVariable d (suc (suc v))) (λ j. edgeVariable d v j) (λ j. edgeClauses d v j) (width d v)
 
 module _ (e : Edition) (d : Lent) where
   -- how many variables stand before the helpers of option i: they come after the last edge, option by option
@@ -88,13 +94,9 @@ module _ (e : Edition) (d : Lent) where
   abbrev pub lastVariable : ℕ
   lastVariable = firstHelper (options d)
 
-  abbrev pub optionOf : ℕ → List Clause
-  optionOf i = e .option (firstValue d i) (firstHelper i) (domain d i)
+  abbrev pub optionClauses : ℕ → List Clause
+  optionClauses i = e .option (firstValue d i) (firstHelper i) (domain d i)
 
-  -- for each option its clauses; T, not F, root; for each node T1, and for each of its edges T2 to T5
+  -- the list: for each option its clauses; T, not F, root; for each node its clauses
   unfoldable pub clauses : List Clause
-  clauses = upTo (options d) optionOf ++ (ends (values d) ++ upTo (nodes d) (nodeOf d))
-
-  -- the words of the result
-  unfoldable pub wordList : List ℤ
-  wordList = words clauses
+  clauses = upTo (options d) optionClauses ++ (units (values d) ++ upTo (nodes d) (nodeClauses d))

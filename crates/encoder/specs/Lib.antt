@@ -1,4 +1,4 @@
+-- What this crate defines. Assumes nothing.
 pub mod Clauses
-pub mod Counts
 pub mod Emit
 pub mod Promise

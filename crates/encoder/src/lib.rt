@@ -1,4 +1,6 @@
 // The encoder: a library above the diagram's, which writes a diagram's clauses as words into a lent buffer. Assumes nothing.
+use cnf::EncodeAnswer;
+use cnf::Encoded;
 use cnf::Tally;
 use diagram::Checked;
 use diagram::Diagram;
@@ -10,24 +12,16 @@ ghost use lib.ListN.{length, getD};
 ghost use lib.IntN.{pos};
 ghost use Rattle.lists.specs.Upto.{sumTo, upTo};
 ghost use Rattle.lists.specs.Buffer.{Wrote, Front};
+ghost use Rattle.refusal.specs.Rules.{roomRule};
 ghost use Rattle.cnf.specs.Clause.{plain, negated, words};
+ghost use Rattle.cnf.specs.Encoded.{EncodedBy};
 ghost use Rattle.diagram.specs.Lent.{lent};
 ghost use Rattle.diagram.specs.Sound.{Within, Sound};
 ghost use Rattle.diagram.specs.Promise.{countsOf};
 ghost use Rattle.diagram.specs.Numbers.{firstValue};
-ghost use Rattle.encoder.specs.Clauses.{oneOf, allValues, row, pairs, pairwise, edition1, optionOf, ends, edgeClauses, t1, nodeOf, wordList};
-ghost use Rattle.encoder.specs.Counts.{pairCount};
-ghost use Rattle.encoder.specs.Emit.{lentEdge, lentNode, Small, Tallied};
-ghost use Rattle.encoder.specs.Promise.{roomRules, EncodedBy, EncodePromise};
-
-pub enum Encoded {
-    Written(Tally),
-    Refused(Refusal),
-}
-
-pub struct EncodeAnswer {
-    pub outcome: Encoded,
-}
+ghost use Rattle.encoder.specs.Clauses.{oneOf, allValues, pairsAfter, pairs, pairwise, edition1, units, t2to5, t1, nodeClauses, optionClauses, clauses, lastVariable};
+ghost use Rattle.encoder.specs.Emit.{lentEdge, lentNode, Small, pairCount, Tallied};
+ghost use Rattle.encoder.specs.Promise.{needed, EncodePromise};
 
 // ---- one word at `at`: a variable's literal, its negation, and what closes a clause. Each answers the index past it.
 
@@ -112,7 +106,7 @@ fn both_imply(out: &mut [i32], at: usize, a: u64, b: u64, c: u64) -> usize
 // ---- many literals
 
 // k variables from `first` on.
-fn emit_run(out: &mut [i32], at: usize, first: u64, k: u32) -> usize
+fn emit_one_of(out: &mut [i32], at: usize, first: u64, k: u32) -> usize
     requires { ⌜ at + length (oneOf (λ (j : ℕ). first + j) k) ≤ length (now out) ⌝ }
     requires { ⌜ first + k ≤ 2 ^ 31 ⌝ }
     ensures { λ r. ⌜ Wrote (now (out .entry)) at (oneOf (λ (j : ℕ). first + j) k) (now (out .exit)) r ⌝ }
@@ -135,15 +129,15 @@ fn emit_values(out: &mut [i32], at: usize, before: u32, k: u32) -> usize
     ensures { λ r. ⌜ Wrote (now (out .entry)) at (words (allValues before k ∷ [])) (now (out .exit)) r ⌝ }
 {
     let first = Diagram::value_variable(before, 0);
-    let p = emit_run(out, at, first, k);
+    let p = emit_one_of(out, at, first, k);
     put_end(out, p)
 }
 
 // Not value i together with one of the n values after it.
-fn emit_row(out: &mut [i32], at: usize, before: u32, i: u32, n: u32) -> usize
-    requires { ⌜ at + length (words (row before i n)) ≤ length (now out) ⌝ }
+fn emit_pairs_after(out: &mut [i32], at: usize, before: u32, i: u32, n: u32) -> usize
+    requires { ⌜ at + length (words (pairsAfter before i n)) ≤ length (now out) ⌝ }
     requires { ⌜ before + i + 1 + n ≤ 2048 ⌝ }
-    ensures { λ r. ⌜ Wrote (now (out .entry)) at (words (row before i n)) (now (out .exit)) r ⌝ }
+    ensures { λ r. ⌜ Wrote (now (out .entry)) at (words (pairsAfter before i n)) (now (out .exit)) r ⌝ }
 {
     let a = Diagram::value_variable(before, i);
     let mut p = at;
@@ -165,7 +159,7 @@ fn emit_pairs(out: &mut [i32], at: usize, before: u32, k: u32) -> usize
     let mut p = at;
     let mut i: u32 = 0;
     while i < k {
-        p = emit_row(out, p, before, i, k - 1 - i);
+        p = emit_pairs_after(out, p, before, i, k - 1 - i);
         i += 1;
     }
     p
@@ -181,9 +175,9 @@ fn emit_option(out: &mut [i32], at: usize, before: u32, k: u32) -> usize
 }
 
 fn emit_options(out: &mut [i32], at: usize, domains: &[u32]) -> usize
-    requires { ⌜ at + length (words (upTo (length (now domains)) (optionOf edition1 (lent (now domains) [] [])))) ≤ length (now out) ⌝ }
+    requires { ⌜ at + length (words (upTo (length (now domains)) (optionClauses edition1 (lent (now domains) [] [])))) ≤ length (now out) ⌝ }
     requires { ⌜ firstValue (lent (now domains) [] []) (length (now domains)) ≤ 2048 ⌝ }
-    ensures { λ r. ⌜ Wrote (now (out .entry)) at (words (upTo (length (now (domains .entry))) (optionOf edition1 (lent (now (domains .entry)) [] [])))) (now (out .exit)) r ⌝ }
+    ensures { λ r. ⌜ Wrote (now (out .entry)) at (words (upTo (length (now (domains .entry))) (optionClauses edition1 (lent (now (domains .entry)) [] [])))) (now (out .exit)) r ⌝ }
 {
     let mut p = at;
     let mut before: u32 = 0;
@@ -199,9 +193,9 @@ fn emit_options(out: &mut [i32], at: usize, domains: &[u32]) -> usize
 
 // ---- T; not F; root
 
-fn emit_ends(out: &mut [i32], at: usize, counts: Diagram) -> usize
+fn emit_units(out: &mut [i32], at: usize, counts: Diagram) -> usize
     requires { ⌜ (at + 6 ≤ length (now out)) × (counts .values ≤ 2048) ⌝ }
-    ensures { λ r. ⌜ Wrote (now (out .entry)) at (words (ends (counts .values))) (now (out .exit)) r ⌝ }
+    ensures { λ r. ⌜ Wrote (now (out .entry)) at (words (units (counts .values))) (now (out .exit)) r ⌝ }
 {
     let p = unit(out, at, counts.reference_variable(1));
     let q = unit_not(out, p, counts.reference_variable(0));
@@ -217,15 +211,15 @@ fn emit_t1(out: &mut [i32], at: usize, node: u64, first: u64, k: u32) -> usize
     ensures { λ r. ⌜ Wrote (now (out .entry)) at (words (t1 node (λ (j : ℕ). first + j) k ∷ [])) (now (out .exit)) r ⌝ }
 {
     let p = put_negated(out, at, node);
-    let q = emit_run(out, p, first, k);
+    let q = emit_one_of(out, p, first, k);
     put_end(out, q)
 }
 
 // T2 to T5 of one edge of a node, with its target and its value's variable.
 fn emit_edge(out: &mut [i32], at: usize, edge: u64, node: u64, target: u64, value: u64) -> usize
-    requires { ⌜ at + length (words (edgeClauses edge node target value)) ≤ length (now out) ⌝ }
+    requires { ⌜ at + length (words (t2to5 edge node target value)) ≤ length (now out) ⌝ }
     requires { ⌜ (edge < 2 ^ 31) × (node < 2 ^ 31) × (target < 2 ^ 31) × (value < 2 ^ 31) ⌝ }
-    ensures { λ r. ⌜ Wrote (now (out .entry)) at (words (edgeClauses edge node target value)) (now (out .exit)) r ⌝ }
+    ensures { λ r. ⌜ Wrote (now (out .entry)) at (words (t2to5 edge node target value)) (now (out .exit)) r ⌝ }
 {
     let p = implies(out, at, edge, node);
     let q = implies(out, p, edge, target);
@@ -243,10 +237,10 @@ fn emit_edges(
     edge: u32,
     targets: &[u32],
 ) -> usize
-    requires { ⌜ at + length (upTo (length (now targets)) (lentEdge (counts .values) (counts .nodes) before edge (now targets) node)) ≤ length (now out) ⌝ }
+    requires { ⌜ at + length (words (upTo (length (now targets)) (lentEdge (counts .values) (counts .nodes) before edge (now targets) node))) ≤ length (now out) ⌝ }
     requires { ⌜ Small (counts .values) (counts .nodes) before edge (now targets) ⌝ }
     requires { ⌜ node < 2 ^ 31 ⌝ }
-    ensures { λ r. ⌜ Wrote (now (out .entry)) at (upTo (length (now (targets .entry))) (lentEdge (counts .values) (counts .nodes) before edge (now (targets .entry)) node)) (now (out .exit)) r ⌝ }
+    ensures { λ r. ⌜ Wrote (now (out .entry)) at (words (upTo (length (now (targets .entry))) (lentEdge (counts .values) (counts .nodes) before edge (now (targets .entry)) node))) (now (out .exit)) r ⌝ }
 {
     let mut p = at;
     let mut j: u32 = 0;
@@ -309,10 +303,10 @@ fn emit_nodes(
     layers: &[u32],
     targets: &[u32],
 ) -> usize
-    requires { ⌜ at + length (words (upTo (length (now layers)) (nodeOf (lent (now domains) (now layers) (now targets))))) ≤ length (now out) ⌝ }
+    requires { ⌜ at + length (words (upTo (length (now layers)) (nodeClauses (lent (now domains) (now layers) (now targets))))) ≤ length (now out) ⌝ }
     requires { ⌜ Sound (lent (now domains) (now layers) (now targets)) ⌝ }
     requires { ⌜ counts ≡ countsOf (lent (now domains) (now layers) (now targets)) ⌝ }
-    ensures { λ r. ⌜ Wrote (now (out .entry)) at (words (upTo (length (now (layers .entry))) (nodeOf (lent (now (domains .entry)) (now (layers .entry)) (now (targets .entry)))))) (now (out .exit)) r ⌝ }
+    ensures { λ r. ⌜ Wrote (now (out .entry)) at (words (upTo (length (now (layers .entry))) (nodeClauses (lent (now (domains .entry)) (now (layers .entry)) (now (targets .entry)))))) (now (out .exit)) r ⌝ }
 {
     let mut p = at;
     let mut i = 0;
@@ -347,13 +341,13 @@ fn emit_all(
     layers: &[u32],
     targets: &[u32],
 ) -> usize
-    requires { ⌜ length (wordList edition1 (lent (now domains) (now layers) (now targets))) ≤ length (now out) ⌝ }
+    requires { ⌜ length (words (clauses edition1 (lent (now domains) (now layers) (now targets)))) ≤ length (now out) ⌝ }
     requires { ⌜ Sound (lent (now domains) (now layers) (now targets)) ⌝ }
     requires { ⌜ counts ≡ countsOf (lent (now domains) (now layers) (now targets)) ⌝ }
-    ensures { λ r. ⌜ Front (now (out .entry)) (wordList edition1 (lent (now (domains .entry)) (now (layers .entry)) (now (targets .entry)))) (now (out .exit)) r ⌝ }
+    ensures { λ r. ⌜ Front (now (out .entry)) (words (clauses edition1 (lent (now (domains .entry)) (now (layers .entry)) (now (targets .entry))))) (now (out .exit)) r ⌝ }
 {
     let p = emit_options(out, 0, domains);
-    let q = emit_ends(out, p, counts);
+    let q = emit_units(out, p, counts);
     emit_nodes(out, q, counts, domains, layers, targets)
 }
 
@@ -408,7 +402,7 @@ fn encode_sound(
 ) -> EncodeAnswer
     requires { ⌜ Sound (lent (now domains) (now layers) (now targets)) ⌝ }
     requires { ⌜ counts ≡ countsOf (lent (now domains) (now layers) (now targets)) ⌝ }
-    ensures { λ r. ⌜ EncodedBy (roomRules edition1 (lent (now (domains .entry)) (now (layers .entry)) (now (targets .entry))) (length (now (out .entry)))) edition1 (lent (now (domains .entry)) (now (layers .entry)) (now (targets .entry))) (now (out .entry)) r (now (out .exit)) ⌝ }
+    ensures { λ r. ⌜ EncodedBy (roomRule (needed edition1 (lent (now (domains .entry)) (now (layers .entry)) (now (targets .entry)))) (length (now (out .entry))) ∷ []) (clauses edition1 (lent (now (domains .entry)) (now (layers .entry)) (now (targets .entry)))) (lastVariable edition1 (lent (now (domains .entry)) (now (layers .entry)) (now (targets .entry)))) (now (out .entry)) r (now (out .exit)) ⌝ }
 {
     let tally = tally_of(counts, pair_count(domains));
     if out.len() < tally.words {

@@ -1,3 +1,4 @@
+-- What this crate defines. Assumes nothing.
 pub mod Upto
 pub mod Every
 pub mod First

@@ -1,3 +1,4 @@
+-- What this crate defines. Assumes nothing.
 pub mod Rules
 pub mod Said
 pub mod Table

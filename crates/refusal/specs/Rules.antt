@@ -1,6 +1,8 @@
 -- A list of rules, and its verdict: the first rule that is due decides. Assumes nothing.
 use mathlib.Core.List.{List, [], _∷_}
 use Prim.Native.Nat.{ℕ}
+use lib.Dec.{ltb}
+use Rattle.lists.specs.First.{foundIf}
 use Rattle.lists.specs.declared.Found.{Found}
 use Rattle.lists.specs.declared.Found.the-variants.{Nothing, At}
 use Rattle.refusal.specs.declared.Refusal.{Refusal}
@@ -18,6 +20,10 @@ refusal n p = record { number = n; place = p }
 abbrev pub ruled : ℕ → Found → Verdict → Verdict
 ruled n (At p) later = Refused (refusal n p)
 ruled n Nothing later = later
+
+-- number 7: a lent buffer of `room` entries is too short for the `needed` ones, and these are its place
+abbrev pub roomRule : ℕ → ℕ → Rule
+roomRule needed room = rule 7 (foundIf (ltb room needed) needed)
 
 unfoldable pub chain : List Rule → Verdict
 chain [] = Passed

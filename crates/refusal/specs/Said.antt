@@ -1,5 +1,6 @@
 -- What an answer says: the table's number (0 for a result), the refusal's place (0 for a result) and the result's
--- values (none for a refusal). Each answer type has a definition that gives this for each of its cases. Assumes nothing.
+-- values (none for a refusal). Each answer type has a definition that gives this for each of its cases. And
+-- what a lent buffer holds after a verdict. Assumes nothing.
 use mathlib.Core.List.{List, []}
 use Prim.Native.Nat.{ℕ}
 use Rattle.refusal.specs.declared.Refusal.{Refusal}

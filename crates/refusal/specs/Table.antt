@@ -1,9 +1,10 @@
 -- A table of refusals, as a person writes it: for each number, in the order in which the numbers are looked for, the
 -- condition under which it is due at a place. Assumes nothing.
+use mathlib.Core.Path.{_≡_}
 use mathlib.Core.Bool.{Bool, true, false, cond}
 use mathlib.Core.List.{List, [], _∷_, List·Memᴰ}
 use mathlib.Core.Logic.{_↔_}
-use Prim.Native.Nat.{ℕ}
+use Prim.Native.Nat.{ℕ, _≤_}
 use lib.Dec.{eqb}
 use Rattle.refusal.specs.Rules.{refusal}
 use Rattle.refusal.specs.declared.Refusal.{Refusal}
@@ -11,6 +12,10 @@ use Rattle.refusal.specs.declared.Refusal.{Refusal}
 -- a number, and what it is that it is due at a place
 pub data Row : Type 1 where
   row : ℕ → (ℕ → Type 0) → Row
+
+-- number 7: the `needed` entries do not fit into a lent buffer of `room`, and they are its place
+abbrev pub roomRow : ℕ → ℕ → Row
+roomRow needed room = row 7 (λ p. (p ≡ needed) × (needed ≤ room → ⊥))
 
 abbrev pub numbers : List Row → List ℕ
 numbers [] = []

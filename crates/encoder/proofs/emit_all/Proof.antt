@@ -14,8 +14,8 @@ use Rattle.diagram.proofs.NumberLaws.{values-most, same-values}
 use Rattle.diagram.specs.Lent.{Lent, lent, options, nodes}
 use Rattle.diagram.specs.Numbers.{values}
 use Rattle.diagram.specs.declared.Diagram.{Diagram}
-use Rattle.encoder.proofs.EmitLaws.{ends-length, list-words}
-use Rattle.encoder.specs.Clauses.{edition1, optionOf, ends, nodeOf, wordList}
+use Rattle.encoder.proofs.EmitLaws.{units-length, list-words}
+use Rattle.encoder.specs.Clauses.{edition1, optionClauses, units, nodeClauses, clauses}
 use Rattle.encoder.proofs.emit_all.Statement.{statement}
 use Rattle.encoder.proofs.emit_all.Tie as tie
 
@@ -23,13 +23,13 @@ abbrev d : tie.Start → Lent
 d s = lent (s .args .domains .now) (s .args .layers .now) (s .args .targets .now)
 
 abbrev first : tie.Start → List ℤ
-first s = words (upTo (options (d s)) (optionOf edition1 (lent (s .args .domains .now) [] [])))
+first s = words (upTo (options (d s)) (optionClauses edition1 (lent (s .args .domains .now) [] [])))
 
 abbrev second : tie.Start → List ℤ
-second s = words (ends (s .args .counts .values))
+second s = words (units (s .args .counts .values))
 
 abbrev third : tie.Start → List ℤ
-third s = words (upTo (nodes (d s)) (nodeOf (d s)))
+third s = words (upTo (nodes (d s)) (nodeClauses (d s)))
 
 counted : (s : tie.Start) → s .args .counts .values ≡ values (d s)
 counted s = ap (λ (c : Diagram). c .values) (s .pre .1 .1)
@@ -37,7 +37,7 @@ counted s = ap (λ (c : Diagram). c .values) (s .pre .1 .1)
 few : (s : tie.Start) → values (d s) ≤ 2048
 few s = values-most (d s) (s .pre .1 .0 .shaped) (options (d s)) (le-refl _)
 
-whole : (s : tie.Start) → first s ++ (second s ++ third s) ≡ wordList edition1 (d s)
+whole : (s : tie.Start) → first s ++ (second s ++ third s) ≡ words (clauses edition1 (d s))
 whole s = list-words (s .args .domains .now) (s .args .layers .now) (s .args .targets .now) (counted s)
 
 fits : (s : tie.Start) → 0 + length (first s ++ (second s ++ third s)) ≤ length (s .args .out .now)
@@ -54,7 +54,7 @@ emit-all-spec =
     tie.close
     (tie.spec
     (λ c κs. let s = c .before .before .before .before in (first-room (first s) (second s ++ third s) 0 _ (fits s), omega (arith, same-values (s .args .domains .now) [] [] (s .args .layers .now) (s .args .targets .now) (options (d s)), few s)))
-    (λ c κs. let o = c .before .before in let s = start o in (omega (arith, first-room (second s) (third s) _ _ (rest o), ends-length (s .args .counts .values)), omega (arith, counted s, few s)))
-    (λ c κs. let b = c .before .before in let o = b .before .before .before in let s = start o in (then-room (b .emit-ends .ensures) (third s) (rest o), (s .pre .1 .0, s .pre .1 .1)))
+    (λ c κs. let o = c .before .before in let s = start o in (omega (arith, first-room (second s) (third s) _ _ (rest o), units-length (s .args .counts .values)), omega (arith, counted s, few s)))
+    (λ c κs. let b = c .before .before in let o = b .before .before .before in let s = start o in (then-room (b .emit-units .ensures) (third s) (rest o), (s .pre .1 .0, s .pre .1 .1)))
     (λ c. search needs)
-    (λ c. let b = c .before .before .before .before in let o = b .before .before .before in let s = start o in to-front (s .pre .0) (wrote-as (then (o .emit-options .ensures) (then (b .emit-ends .ensures) (c .before .emit-nodes .ensures))) (whole s))))
+    (λ c. let b = c .before .before .before .before in let o = b .before .before .before in let s = start o in to-front (s .pre .0) (wrote-as (then (o .emit-options .ensures) (then (b .emit-units .ensures) (c .before .emit-nodes .ensures))) (whole s))))

@@ -2,20 +2,20 @@
 use mathlib.Core.List.{List}
 use Prim.Native.Nat.{ℕ, _≤_, _+_, _-_}
 use native.Mathlib.Omega.{arith}
-use lib.IntN.{ℤ}
 use lib.ListN.{length, getD}
 use borrow.Author.Needs.{needs}
 use Rattle.lists.proofs.BufferLaws.{kept, begin, turn, room, finish, wrote-as}
 use Rattle.lists.specs.Buffer.{Wrote}
 use Rattle.lists.specs.Upto.{upTo}
+use Rattle.cnf.specs.Clause.{Clause, words}
 use Rattle.diagram.specs.Numbers.{valueNumber, referenceNumber, edgeNumber}
-use Rattle.encoder.proofs.EmitLaws.{edge-length, edge-same}
+use Rattle.encoder.proofs.EmitLaws.{each-room, each-wrote, edge-length, edge-same}
 use Rattle.encoder.specs.Emit.{lentEdge}
 use Rattle.encoder.proofs.emit_edges.Statement.{statement}
 use Rattle.encoder.proofs.emit_edges.Tie as tie
 
 abbrev Inv-loop : tie.InvT-loop
-Inv-loop out₀ at counts node before edge targets p₀ j₀ out p j = (j ≤ length targets) × Wrote out₀ at (upTo j (lentEdge (counts .values) (counts .nodes) before edge targets node)) out p
+Inv-loop out₀ at counts node before edge targets p₀ j₀ out p j = (j ≤ length targets) × Wrote out₀ at (upTo j (λ j. words (lentEdge (counts .values) (counts .nodes) before edge targets node j))) out p
 
 abbrev μ-loop : tie.MeasureT-loop
 μ-loop out₀ at counts node before edge targets p₀ j₀ out p j = length targets - j
@@ -23,12 +23,12 @@ abbrev μ-loop : tie.MeasureT-loop
 abbrev start : tie.In-loop Inv-loop μ-loop → tie.Start Inv-loop μ-loop
 start t = t .before .before .before
 
-abbrev f : tie.Start Inv-loop μ-loop → ℕ → List ℤ
-f s = let a = s .args in lentEdge (a .counts .values) (a .counts .nodes) (a .before) (a .edge) (a .targets .now) (a .node)
+abbrev block : tie.Start Inv-loop μ-loop → ℕ → List Clause
+block s = let a = s .args in lentEdge (a .counts .values) (a .counts .nodes) (a .before) (a .edge) (a .targets .now) (a .node)
 
 -- this turn's room, and its words as its variables' numbers give them
 fits : (t : tie.In-loop Inv-loop μ-loop) → t .before .loop .p + 13 ≤ length (t .before .loop .out)
-fits t = let s = start t in let a = s .args in let l = t .before .loop in omega (arith, room (f s) (l .inv .1) (s .pre .0) (t .loop-test .taken), edge-length (edgeNumber (a .counts .values) (a .counts .nodes) (a .edge + l .j)) (a .node) (referenceNumber (a .counts .values) (getD (a .targets .now) (l .j) 0)) (valueNumber (a .before) (l .j)))
+fits t = let s = start t in let a = s .args in let l = t .before .loop in omega (arith, room (λ j. words (block s j)) (l .inv .1) (each-room (length (a .targets .now)) (block s) (a .at) _ (s .pre .0)) (t .loop-test .taken), edge-length (edgeNumber (a .counts .values) (a .counts .nodes) (a .edge + l .j)) (a .node) (referenceNumber (a .counts .values) (getD (a .targets .now) (l .j) 0)) (valueNumber (a .before) (l .j)))
 
 pub emit-edges-spec : {M : Type 1} → statement M
 emit-edges-spec =
@@ -52,7 +52,7 @@ emit-edges-spec =
     let t = e .before in
     let s = start t in (
       omega (arith, fits t, edge-length (e .edge-variable .result) (s .args .node) (m .reference-variable .result) (x .value-variable .result)),
-      (omega (arith, s .pre .1 .0), s .pre .1 .1, omega (arith, m .reference-variable .ensures, s .pre .1 .0 .few-targets (t .before .loop .j) (t .loop-test .taken), s .pre .1 .0 .few-values), omega (arith, s .pre .1 .0)),
+      (omega (arith, s .pre .1 .0), s .pre .1 .1, omega (arith, m .reference-variable .ensures, s .pre .1 .0 .few-targets (t .before .loop .j) (t .loop-test .taken), s .pre .1 .0 .few-values, s .pre .1 .1), omega (arith, s .pre .1 .0)),
     ))
     (λ c. search needs)
     (λ c. search needs)
@@ -61,6 +61,6 @@ emit-edges-spec =
     let m = x .before in
     let e = m .before .before in
     let t = e .before in
-    (omega (arith, t .loop-test .taken), turn (f (start t)) (t .before .loop .inv .1) (wrote-as (c .before .emit-edge .ensures) (edge-same (start t .args .node) (e .edge-variable .ensures) (m .reference-variable .ensures) (x .value-variable .ensures)))))
+    (omega (arith, t .loop-test .taken), turn (λ j. words (block (start t) j)) (t .before .loop .inv .1) (wrote-as (c .before .emit-edge .ensures) (edge-same (start t .args .node) (e .edge-variable .ensures) (m .reference-variable .ensures) (x .value-variable .ensures)))))
     (λ c. kept (c .before .loop .inv .1))
-    (λ c. let l = c .before .loop in finish _ (l .inv .1) (l .inv .0) (c .loop-test .left)))
+    (λ c. let l = c .before .loop in each-wrote _ _ (finish _ (l .inv .1) (l .inv .0) (c .loop-test .left))))

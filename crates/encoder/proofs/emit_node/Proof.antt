@@ -9,7 +9,7 @@ use borrow.Author.Needs.{needs}
 use Rattle.lists.proofs.BufferLaws.{then, wrote-as, first-room, then-room, to-front}
 use Rattle.lists.specs.Upto.{upTo}
 use Rattle.cnf.specs.Clause.{words}
-use Rattle.encoder.proofs.EmitLaws.{node-words}
+use Rattle.encoder.proofs.EmitLaws.{lent-words}
 use Rattle.encoder.specs.Clauses.{t1}
 use Rattle.encoder.specs.Emit.{lentEdge, lentNode}
 use Rattle.encoder.proofs.emit_node.Statement.{statement}
@@ -23,10 +23,10 @@ abbrev head : tie.After-edge-variable → List ℤ
 head c = let a = start c .args in words (t1 (c .before .reference-variable .result) (λ j. c .edge-variable .result + j) (length (a .targets .now)) ∷ [])
 
 abbrev rest : tie.After-edge-variable → List ℤ
-rest c = let a = start c .args in upTo (length (a .targets .now)) (lentEdge (a .counts .values) (a .counts .nodes) (a .before) (a .edge) (a .targets .now) (c .before .reference-variable .result))
+rest c = let a = start c .args in words (upTo (length (a .targets .now)) (lentEdge (a .counts .values) (a .counts .nodes) (a .before) (a .edge) (a .targets .now) (c .before .reference-variable .result)))
 
 whole : (c : tie.After-edge-variable) → let a = start c .args in head c ++ rest c ≡ words (lentNode (a .counts .values) (a .counts .nodes) (a .before) (a .edge) (a .targets .now) (a .v))
-whole c = let a = start c .args in node-words (a .counts .values) (a .counts .nodes) (a .before) (a .edge) (a .targets .now) (a .v) (c .before .reference-variable .ensures) (c .edge-variable .ensures) refl
+whole c = let a = start c .args in lent-words (a .counts .values) (a .counts .nodes) (a .before) (a .edge) (a .targets .now) (a .v) (c .before .reference-variable .ensures) (c .edge-variable .ensures) refl
 
 fits : (c : tie.After-edge-variable) → 0 + length (head c ++ rest c) ≤ length (start c .args .out .now)
 fits c = omega (arith, ap length (whole c), start c .pre .0)

@@ -17,7 +17,7 @@ use Rattle.diagram.specs.Numbers.{firstValue, values}
 use Rattle.diagram.specs.Sound.{Within, Sound}
 use Rattle.diagram.specs.declared.Diagram.{Diagram}
 use Rattle.encoder.proofs.EmitLaws.{each-room, each-wrote, part-small, part-node}
-use Rattle.encoder.specs.Clauses.{nodeOf}
+use Rattle.encoder.specs.Clauses.{nodeClauses}
 use Rattle.encoder.specs.Emit.{lentNode, Small}
 use Rattle.encoder.proofs.emit_nodes.Statement.{statement}
 use Rattle.encoder.proofs.emit_nodes.Tie as tie
@@ -25,7 +25,7 @@ use Rattle.encoder.proofs.emit_nodes.Tie as tie
 abbrev Inv-loop : tie.InvT-loop
 Inv-loop out₀ at counts domains layers targets p₀ i₀ before₀ edge₀ v₀ out p i before edge v =
     (v ≤ length layers) × (v < length layers → i ≤ asked (lent domains layers targets) v) × (before ≡ firstValue (lent domains [] []) i) × (edge ≡ firstEdge (lent domains layers targets) v)
-    × Wrote out₀ at (upTo v (λ v. words (nodeOf (lent domains layers targets) v))) out p
+    × Wrote out₀ at (upTo v (λ v. words (nodeClauses (lent domains layers targets) v))) out p
 
 abbrev μ-loop : tie.MeasureT-loop
 μ-loop out₀ at counts domains layers targets p₀ i₀ before₀ edge₀ v₀ out p i before edge v = length layers - v
@@ -71,7 +71,7 @@ module _ (c : tie.After-values-before Inv-loop μ-loop) where
   eb : c .values-before .result ≡ firstValue (d (test c)) (asked (d (test c)) (test c .before .loop .v))
   eb = c .values-before .ensures ∙ same-values _ [] [] _ _ _
 
-  node : lentWords ≡ words (nodeOf (d (test c)) (test c .before .loop .v))
+  node : lentWords ≡ words (nodeClauses (d (test c)) (test c .before .loop .v))
   node = let t = test c in ap words (part-node (d t) (sound t) eD en (t .before .loop .v) (t .loop-test .taken) eb (t .before .loop .inv .3))
 
   small : let t = test c in let a = start t .args in let l = t .before .loop in Small (a .counts .values) (a .counts .nodes) (c .values-before .result) (l .edge) (take (l .edge + width (d t) (l .v) - l .edge) (drop (l .edge) (a .targets .now)))
@@ -81,7 +81,7 @@ module _ (c : tie.After-values-before Inv-loop μ-loop) where
   fits =
       let t = test c in
       let s = start t in
-      omega (arith, ap length node, room (λ v. words (nodeOf (d t) v)) (t .before .loop .inv .4) (each-room (nodes (d t)) (nodeOf (d t)) (s .args .at) _ (s .pre .0)) (t .loop-test .taken))
+      omega (arith, ap length node, room (λ v. words (nodeClauses (d t) v)) (t .before .loop .inv .4) (each-room (nodes (d t)) (nodeClauses (d t)) (s .args .at) _ (s .pre .0)) (t .loop-test .taken))
 
 pub emit-nodes-spec : {M : Type 1} → statement M
 emit-nodes-spec =
@@ -128,7 +128,7 @@ emit-nodes-spec =
       (λ h. let k : l .v ≤ l .v + 1 = omega arith in omega (arith, layers-rise (d t) (sound t .shaped) (l .v) (l .v + 1) k h)),
       b .values-before .ensures,
       omega (arith, l .inv .3, edge-sums (d t) .more (l .v)),
-      turn (λ v. words (nodeOf (d t) v)) (l .inv .4) (wrote-as (front-in-part (l .out) (l .p) (fits b) (c .before .emit-node .ensures)) (node b)),
+      turn (λ v. words (nodeClauses (d t) v)) (l .inv .4) (wrote-as (front-in-part (l .out) (l .p) (fits b) (c .before .emit-node .ensures)) (node b)),
     ))
     (λ c. kept (c .before .loop .inv .4))
     (λ c. let l = c .before .loop in each-wrote _ _ (finish _ (l .inv .4) (l .inv .0) (c .loop-test .left))))

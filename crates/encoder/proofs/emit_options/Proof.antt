@@ -13,12 +13,12 @@ use Rattle.diagram.proofs.NumberLaws.{value-sums}
 use Rattle.diagram.specs.Lent.{Lent, lent, domain}
 use Rattle.diagram.specs.Numbers.{firstValue}
 use Rattle.encoder.proofs.EmitLaws.{each-room, each-wrote}
-use Rattle.encoder.specs.Clauses.{pairwise, edition1, optionOf}
+use Rattle.encoder.specs.Clauses.{pairwise, edition1, optionClauses}
 use Rattle.encoder.proofs.emit_options.Statement.{statement}
 use Rattle.encoder.proofs.emit_options.Tie as tie
 
 abbrev Inv-loop : tie.InvT-loop
-Inv-loop out₀ at domains p₀ before₀ i₀ out p before i = (i ≤ length domains) × (before ≡ firstValue (lent domains [] []) i) × Wrote out₀ at (upTo i (λ i. words (optionOf edition1 (lent domains [] []) i))) out p
+Inv-loop out₀ at domains p₀ before₀ i₀ out p before i = (i ≤ length domains) × (before ≡ firstValue (lent domains [] []) i) × Wrote out₀ at (upTo i (λ i. words (optionClauses edition1 (lent domains [] []) i))) out p
 
 abbrev μ-loop : tie.MeasureT-loop
 μ-loop out₀ at domains p₀ before₀ i₀ out p before i = length domains - i
@@ -30,7 +30,7 @@ abbrev d : tie.In-loop Inv-loop μ-loop → Lent
 d t = lent (start t .args .domains .now) [] []
 
 -- this turn's option, by the values before it
-here : (t : tie.In-loop Inv-loop μ-loop) → let l = t .before .loop in words (pairwise (l .before) (domain (d t) (l .i))) ≡ words (optionOf edition1 (d t) (l .i))
+here : (t : tie.In-loop Inv-loop μ-loop) → let l = t .before .loop in words (pairwise (l .before) (domain (d t) (l .i))) ≡ words (optionClauses edition1 (d t) (l .i))
 here t = let l = t .before .loop in ap (λ (b : ℕ). words (pairwise b (domain (d t) (l .i)))) (l .inv .1)
 
 within : (t : tie.In-loop Inv-loop μ-loop) → let l = t .before .loop in l .before + domain (d t) (l .i) ≤ 2048
@@ -49,13 +49,13 @@ emit-options-spec =
     let t = c .before .before in
     let s = start t in
     let l = t .before .loop in
-    (omega (arith, ap length (here t), room (λ i. words (optionOf edition1 (d t) i)) (l .inv .2) (each-room _ (optionOf edition1 (d t)) (s .args .at) _ (s .pre .0)) (t .loop-test .taken)), within t))
+    (omega (arith, ap length (here t), room (λ i. words (optionClauses edition1 (d t) i)) (l .inv .2) (each-room _ (optionClauses edition1 (d t)) (s .args .at) _ (s .pre .0)) (t .loop-test .taken)), within t))
     (λ c. omega (arith, within (c .before .before .before .before)))
     (λ c. search needs)
     (λ c. search needs)
     (λ c.
     let t = c .before .before .before .before in
     let l = t .before .loop in
-    (omega (arith, t .loop-test .taken), omega (arith, l .inv .1, value-sums (d t) .more (l .i)), turn (λ i. words (optionOf edition1 (d t) i)) (l .inv .2) (wrote-as (c .before .emit-option .ensures) (here t))))
+    (omega (arith, t .loop-test .taken), omega (arith, l .inv .1, value-sums (d t) .more (l .i)), turn (λ i. words (optionClauses edition1 (d t) i)) (l .inv .2) (wrote-as (c .before .emit-option .ensures) (here t))))
     (λ c. kept (c .before .loop .inv .2))
     (λ c. let l = c .before .loop in each-wrote _ _ (finish _ (l .inv .2) (l .inv .0) (c .loop-test .left))))

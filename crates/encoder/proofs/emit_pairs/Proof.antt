@@ -8,12 +8,12 @@ use Rattle.lists.specs.Buffer.{Wrote}
 use Rattle.lists.specs.Upto.{upTo}
 use Rattle.cnf.specs.Clause.{Clause, words}
 use Rattle.encoder.proofs.EmitLaws.{each-room, each-wrote}
-use Rattle.encoder.specs.Clauses.{row}
+use Rattle.encoder.specs.Clauses.{pairsAfter}
 use Rattle.encoder.proofs.emit_pairs.Statement.{statement}
 use Rattle.encoder.proofs.emit_pairs.Tie as tie
 
 abbrev block : ℕ → ℕ → ℕ → List Clause
-block b k i = row b i (k - 1 - i)
+block b k i = pairsAfter b i (k - 1 - i)
 
 abbrev Inv-loop : tie.InvT-loop
 Inv-loop out₀ at before k p₀ i₀ out p i = (i ≤ k) × Wrote out₀ at (upTo i (λ i. words (block before k i))) out p
@@ -37,6 +37,6 @@ emit-pairs-spec =
     (room (λ i. words (block (a .before) (a .k) i)) (t .before .loop .inv .1) (each-room (a .k) (block (a .before) (a .k)) (a .at) _ (s .pre .0)) (t .loop-test .taken), omega (arith, t .loop-test .taken)))
     (λ c. search needs)
     (λ c. search needs)
-    (λ c. let t = c .before .before .before in let a = t .before .before .args in (omega (arith, t .loop-test .taken), turn (λ i. words (block (a .before) (a .k) i)) (t .before .loop .inv .1) (c .before .emit-row .ensures)))
+    (λ c. let t = c .before .before .before in let a = t .before .before .args in (omega (arith, t .loop-test .taken), turn (λ i. words (block (a .before) (a .k) i)) (t .before .loop .inv .1) (c .before .emit-pairs-after .ensures)))
     (λ c. kept (c .before .loop .inv .1))
     (λ c. let a = c .before .before .args in let l = c .before .loop in each-wrote (a .k) (block (a .before) (a .k)) (finish (λ i. words (block (a .before) (a .k) i)) (l .inv .1) (l .inv .0) (c .loop-test .left))))

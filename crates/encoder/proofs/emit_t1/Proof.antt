@@ -10,7 +10,7 @@ use Rattle.encoder.proofs.emit_t1.Tie as tie
 
 returns : tie.Need-returns
 unfolding words
-returns c = let b = c .before .before .before in then (b .before .before .before .before .put-negated .ensures) (then (b .before .emit-run .ensures) (c .before .put-end .ensures))
+returns c = let b = c .before .before .before in then (b .before .before .before .before .put-negated .ensures) (then (b .before .emit-one-of .ensures) (c .before .put-end .ensures))
 
 pub emit-t1-spec : {M : Type 1} → statement M
 emit-t1-spec =

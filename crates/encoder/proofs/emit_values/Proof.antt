@@ -15,4 +15,4 @@ emit-values-spec =
     (λ c κs. let f = c .before in let a = f .before .args in (omega (arith, values-length (a .before) (a .k), run-length (λ j. f .value-variable .result + j) (a .k)), omega (arith, f .value-variable .ensures)))
     (λ c κs. let f = c .before .before .before .before in let a = f .before .args in omega (arith, values-length (a .before) (a .k), run-length (λ j. f .value-variable .result + j) (a .k)))
     (λ c. search needs)
-    (λ c. let r = c .before .before .before in let f = r .before .before .before in let a = f .before .args in wrote-as (then (r .before .emit-run .ensures) (c .before .put-end .ensures)) (values-words (a .before) (a .k) (f .value-variable .ensures))))
+    (λ c. let r = c .before .before .before in let f = r .before .before .before in let a = f .before .args in wrote-as (then (r .before .emit-one-of .ensures) (c .before .put-end .ensures)) (values-words (a .before) (a .k) (f .value-variable .ensures))))

@@ -1,10 +1,23 @@
 -- `encoder::encode` meets its contract: the diagram is refused, or has passed and is encoded. Assumes nothing.
 use borrow.Author.Needs.{needs}
+use Rattle.cnf.proofs.EncodedLaws.{encode-refuses, encode-goes-on}
+use Rattle.diagram.specs.Lent.{Lent, lent}
+use Rattle.diagram.specs.Rules.{checkRules}
 use Rattle.diagram.proofs.CheckLaws.{answer-refused, answer-sound, sound-exactly}
-use Rattle.encoder.proofs.EncodeLaws.{encode-refuses, encode-goes-on}
-use Rattle.encoder.specs.Clauses.{edition1}
+use Rattle.encoder.specs.Promise.{encodeRules}
 use Rattle.encoder.proofs.encode.Statement.{statement}
 use Rattle.encoder.proofs.encode.Tie as tie
+
+abbrev d : tie.After-check → Lent
+d c = let a = c .before .before .before .before .args in lent (a .domains .now) (a .layers .now) (a .targets .now)
+
+returns : tie.Need-returns
+unfolding encodeRules
+returns c = let o = c .before in let k = o .before .before in encode-refuses _ _ _ (checkRules (d k)) _ _ (answer-refused (d k) (k .check .result) (k .check .ensures) _ .0 (o .outcome .given .1))
+
+returns-2 : tie.Need-returns-2
+unfolding encodeRules
+returns-2 c = let o = c .before .before .before .before in let k = o .before .before in encode-goes-on _ _ _ (checkRules (d k)) _ _ _ (answer-sound (d k) (k .check .result) (k .check .ensures) (o .outcome2 .given .1)) (c .before .encode-sound .ensures)
 
 pub encode-spec : {M : Type 1} → statement M
 encode-spec =
@@ -14,6 +27,6 @@ encode-spec =
     (λ c. search needs)
     (λ c. search needs)
     (λ c κs. let o = c .before .before in let k = o .before .before .check in sound-exactly _ (k .result) (k .ensures) _ .0 (o .outcome2 .given .1))
-    (λ c. let o = c .before in let k = o .before .before .check in encode-refuses edition1 _ _ _ (answer-refused _ (k .result) (k .ensures) _ .0 (o .outcome .given .1)))
+    returns
     (λ c. search needs)
-    (λ c. let o = c .before .before .before .before in let k = o .before .before .check in encode-goes-on edition1 _ _ _ _ (answer-sound _ (k .result) (k .ensures) (o .outcome2 .given .1)) (c .before .encode-sound .ensures)))
+    returns-2)

@@ -4,15 +4,17 @@ use Prim.Native.Nat.{_≤_}
 use native.Mathlib.Nat.{le-refl}
 use native.Mathlib.Omega.{arith}
 use borrow.Author.Needs.{needs}
+use Rattle.cnf.specs.Encoded.{tallyOf}
 use Rattle.cnf.specs.declared.Tally.{Tally}
+use Rattle.cnf.proofs.EncodedLaws.{encode-short, encode-writes}
 use Rattle.diagram.proofs.NumberLaws.{values-most}
 use Rattle.diagram.proofs.ShapedLaws.{edges-most}
 use Rattle.diagram.specs.Lent.{Lent, lent, options, nodes}
 use Rattle.diagram.specs.declared.Diagram.{Diagram}
 use Rattle.encoder.proofs.CountLaws.{all-pairs-most}
-use Rattle.encoder.proofs.EncodeLaws.{own-tally, too-short, long-enough}
-use Rattle.encoder.specs.Clauses.{edition1}
-use Rattle.encoder.specs.Promise.{needed, ownTally}
+use Rattle.encoder.proofs.EncodeLaws.{own-tally}
+use Rattle.encoder.specs.Clauses.{edition1, clauses, lastVariable}
+use Rattle.encoder.specs.Promise.{needed}
 use Rattle.encoder.proofs.encode_sound.Statement.{statement}
 use Rattle.encoder.proofs.encode_sound.Tie as tie
 
@@ -22,7 +24,7 @@ d s = lent (s .args .domains .now) (s .args .layers .now) (s .args .targets .now
 abbrev start : tie.After-tally-of → tie.Start
 start c = c .before .before .before .before .before
 
-own : (c : tie.After-tally-of) → c .tally-of .result ≡ ownTally edition1 (d (start c))
+own : (c : tie.After-tally-of) → c .tally-of .result ≡ tallyOf (clauses edition1 (d (start c))) (lastVariable edition1 (d (start c)))
 own c = own-tally (d (start c)) (c .tally-of .result) (c .tally-of .ensures) (start c .pre .1) (c .before .pair-count .ensures)
 
 length-is : (c : tie.After-tally-of) → c .tally-of .result .words ≡ needed edition1 (d (start c))
@@ -38,7 +40,7 @@ encode-sound-spec =
     let h = s .pre .0 .shaped in
     subst (λ (k : Diagram). (k .options ≤ 64) × (k .nodes ≤ 4096) × (k .values ≤ 2048) × (k .edges ≤ 131072) × (c .pair-count .result ≤ 31744)) (sym (s .pre .1))
     (h .options-fit .1, h .nodes-fit .1, values-most (d s) h (options (d s)) (le-refl _), edges-most (d s) h (nodes (d s)) (le-refl _), omega (arith, c .pair-count .ensures, all-pairs-most (d s) h)))
-    (λ c. let t = c .before .before in too-short edition1 (d (start t)) _ (length-is t) (c .if1 .taken))
+    (λ c. let t = c .before .before in encode-short (clauses edition1 (d (start t))) (lastVariable edition1 (d (start t))) _ (length-is t) (c .if1 .taken))
     (λ c κs. let t = c .before .before .before in (omega (arith, length-is t, c .before .if1 .left), (start t .pre .0, start t .pre .1)))
     (λ c. search needs)
-    (λ c. let e = c .before .before .before in let t = e .before .before in long-enough edition1 (d (start t)) _ (own t) (omega (arith, length-is t, e .if1 .left)) (c .before .emit-all .ensures .list)))
+    (λ c. let e = c .before .before .before in let t = e .before .before in encode-writes (clauses edition1 (d (start t))) (lastVariable edition1 (d (start t))) _ (own t) (omega (arith, length-is t, e .if1 .left)) (c .before .emit-all .ensures .list)))

@@ -8,7 +8,7 @@ use borrow.Author.Needs.{needs}
 use Rattle.lists.proofs.UptoLaws.{sum-none, sum-more, sum-most}
 use Rattle.lists.specs.Upto.{sumTo}
 use Rattle.encoder.proofs.CountLaws.{pairs-most}
-use Rattle.encoder.specs.Counts.{pairCount}
+use Rattle.encoder.specs.Emit.{pairCount}
 use Rattle.encoder.proofs.pair_count.Statement.{statement}
 use Rattle.encoder.proofs.pair_count.Tie as tie
 

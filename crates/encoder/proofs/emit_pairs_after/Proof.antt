@@ -1,4 +1,4 @@
--- `encoder::emit_row` meets its contract: before turn t, the first t pairs stand there. Assumes nothing.
+-- `encoder::emit_pairs_after` meets its contract: before turn t, the first t pairs stand there. Assumes nothing.
 use mathlib.Core.List.{List, [], _∷_}
 use Prim.Native.Nat.{ℕ, _≤_, _+_, _-_}
 use native.Mathlib.Omega.{arith}
@@ -10,8 +10,8 @@ use Rattle.lists.specs.Upto.{upTo}
 use Rattle.cnf.specs.Clause.{Clause, words}
 use Rattle.encoder.proofs.EmitLaws.{each-room, each-wrote, pair-length, pair-words}
 use Rattle.encoder.specs.Clauses.{pair}
-use Rattle.encoder.proofs.emit_row.Statement.{statement}
-use Rattle.encoder.proofs.emit_row.Tie as tie
+use Rattle.encoder.proofs.emit_pairs_after.Statement.{statement}
+use Rattle.encoder.proofs.emit_pairs_after.Tie as tie
 
 abbrev block : ℕ → ℕ → ℕ → List Clause
 block b i t = pair b i (i + 1 + t) ∷ []
@@ -32,8 +32,8 @@ fits t =
     let l = t .before .loop in
     omega (arith, room (λ t. words (block (a .before) (a .i) t)) (l .inv .1) (each-room (a .n) (block (a .before) (a .i)) (a .at) _ (s .pre .0)) (t .loop-test .taken), pair-length (a .before) (a .i) (a .i + 1 + l .t))
 
-pub emit-row-spec : {M : Type 1} → statement M
-emit-row-spec =
+pub emit-pairs-after-spec : {M : Type 1} → statement M
+emit-pairs-after-spec =
     tie.close
     (tie.spec
     Inv-loop

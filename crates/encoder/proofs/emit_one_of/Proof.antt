@@ -1,4 +1,4 @@
--- `encoder::emit_run` meets its contract: before turn j, the first j literals stand there. Assumes nothing.
+-- `encoder::emit_one_of` meets its contract: before turn j, the first j literals stand there. Assumes nothing.
 use mathlib.Core.List.{List, [], _∷_}
 use Prim.Native.Nat.{_≤_, _-_, _+_, ℕ}
 use native.Mathlib.Omega.{arith}
@@ -8,8 +8,8 @@ use Rattle.lists.proofs.BufferLaws.{kept, begin, turn, room, finish}
 use Rattle.lists.specs.Buffer.{Wrote}
 use Rattle.cnf.specs.Clause.{plain}
 use Rattle.encoder.specs.Clauses.{oneOf}
-use Rattle.encoder.proofs.emit_run.Statement.{statement}
-use Rattle.encoder.proofs.emit_run.Tie as tie
+use Rattle.encoder.proofs.emit_one_of.Statement.{statement}
+use Rattle.encoder.proofs.emit_one_of.Tie as tie
 
 -- the literal of turn j
 abbrev literal : ℕ → ℕ → List ℤ
@@ -21,8 +21,8 @@ Inv-loop out₀ at first k p₀ j₀ out p j = (j ≤ k) × Wrote out₀ at (one
 abbrev μ-loop : tie.MeasureT-loop
 μ-loop out₀ at first k p₀ j₀ out p j = k - j
 
-pub emit-run-spec : {M : Type 1} → statement M
-emit-run-spec =
+pub emit-one-of-spec : {M : Type 1} → statement M
+emit-one-of-spec =
     tie.close
     (tie.spec
     Inv-loop
