@@ -43,13 +43,8 @@ count-bad-layers-spec =
     μ-loop
     (λ c. search needs)
     (λ c. (omega (arith, c .before .before .pre), sym (count-start _)))
-    (λ c. search needs)
-    (λ c. search needs)
-    (λ c. search needs)
-    (λ c. search needs)
-    (λ c. search needs)
-    (λ c. search needs)
-    (λ c κs. search needs)
+    (λ c. search needs) (λ c. search needs) (λ c. search needs) (λ c. search needs) (λ c. search needs)
+    (λ c. search needs) (λ c κs. search needs)
     add-n
     (λ c. search needs)
     (λ c. search needs)

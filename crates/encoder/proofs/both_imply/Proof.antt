@@ -8,9 +8,5 @@ pub both-imply-spec : {M : Type 1} → statement M
 both-imply-spec =
     tie.close
     (tie.spec
-    (λ c κs. search needs)
-    (λ c κs. search needs)
-    (λ c κs. search needs)
-    (λ c κs. search needs)
-    (λ c. search needs)
+    (λ c κs. search needs) (λ c κs. search needs) (λ c κs. search needs) (λ c κs. search needs) (λ c. search needs)
     (λ c. then (c .before .before .before .before .before .before .before .before .before .before .put-negated .ensures) (then (c .before .before .before .before .before .before .before .put-negated2 .ensures) (then (c .before .before .before .before .put-plain .ensures) (c .before .put-end .ensures)))))

@@ -39,11 +39,7 @@ emit-edges-spec =
     (λ c. (omega arith, begin _))
     (λ c. search needs)
     (λ c. omega (arith, start c .pre .1 .0))
-    (λ c κs. search needs)
-    (λ c. search needs)
-    (λ c. search needs)
-    (λ c. search needs)
-    (λ c κs. search needs)
+    (λ c κs. search needs) (λ c. search needs) (λ c. search needs) (λ c. search needs) (λ c κs. search needs)
     (λ c κs. search needs)
     (λ c κs.
     let x = c .before in
@@ -51,7 +47,7 @@ emit-edges-spec =
     let e = m .before .before in
     let t = e .before in
     let s = start t in (
-      omega (arith, fits t, edge-length (e .edge-variable .result) (s .args .node) (m .reference-variable .result) (x .value-variable .result)),
+      rw edge-length (fits t),
       (omega (arith, s .pre .1 .0), s .pre .1 .1, omega (arith, m .reference-variable .ensures, s .pre .1 .0 .few-targets (t .before .loop .j) (t .loop-test .taken), s .pre .1 .0 .few-values, s .pre .1 .1), omega (arith, s .pre .1 .0)),
     ))
     (λ c. search needs)

@@ -35,10 +35,7 @@ pub emit-node-spec : {M : Type 1} → statement M
 emit-node-spec =
     tie.close
     (tie.spec
-    (λ c. search needs)
-    (λ c κs. search needs)
-    (λ c κs. search needs)
-    (λ c. search needs)
+    (λ c. search needs) (λ c κs. search needs) (λ c κs. search needs) (λ c. search needs)
     (λ c κs. let e = c .before in (first-room (head e) (rest e) 0 _ (fits e), omega (arith, start e .pre .1 .0)))
     (λ c κs. let t = c .before .before in let e = t .before .before in (then-room (t .emit-t1 .ensures) (rest e) (fits e), (start e .pre .1 .0, omega (arith, start e .pre .1 .0))))
     (λ c. search needs)

@@ -1,4 +1,5 @@
--- `encoder::emit_nodes` meets its contract: before turn v, the first v nodes stand there, i is an option not after that of node v, and edge is the first edge of node v. Assumes nothing.
+-- `encoder::emit_nodes` meets its contract: before turn v the first v nodes stand there, i is an option not after that of
+-- node v, and edge is the first edge of node v. Assumes nothing.
 use mathlib.Core.List.{List, []}
 use mathlib.Core.Path.{_∙_, _≡_, sym, ap}
 use Prim.Native.Nat.{_≤_, _<_, _+_, _-_}

@@ -8,8 +8,5 @@ pub implies-spec : {M : Type 1} → statement M
 implies-spec =
     tie.close
     (tie.spec
-    (λ c κs. search needs)
-    (λ c κs. search needs)
-    (λ c κs. search needs)
-    (λ c. search needs)
+    (λ c κs. search needs) (λ c κs. search needs) (λ c κs. search needs) (λ c. search needs)
     (λ c. then (c .before .before .before .before .before .before .before .put-negated .ensures) (then (c .before .before .before .before .put-plain .ensures) (c .before .put-end .ensures))))

@@ -10,8 +10,5 @@ put-negated-spec =
     (tie.spec
     (λ c. search needs)
     (λ c. fits-less (c .args .variable) (c .pre .1))
-    (λ c. search needs)
-    (λ c. search needs)
-    (λ c. search needs)
-    (λ c. search needs)
+    (λ c. search needs) (λ c. search needs) (λ c. search needs) (λ c. search needs)
     (λ c. record { list = rw (minus-back (c .args .variable) (c .pre .1)); next = search needs }))

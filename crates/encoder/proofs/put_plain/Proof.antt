@@ -8,9 +8,5 @@ pub put-plain-spec : {M : Type 1} → statement M
 put-plain-spec =
     tie.close
     (tie.spec
-    (λ c. search needs)
-    (λ c. search needs)
-    (λ c. search needs)
-    (λ c. search needs)
-    (λ c. search needs)
+    (λ c. search needs) (λ c. search needs) (λ c. search needs) (λ c. search needs) (λ c. search needs)
     (λ c. record { list = rw (as-word (c .args .variable) (c .pre .1)); next = search needs }))

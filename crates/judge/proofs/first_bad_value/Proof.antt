@@ -27,10 +27,7 @@ first-bad-value-spec =
     Inv-loop
     μ-loop
     (λ c. (omega arith, start _))
-    (λ c. search needs)
-    (λ c. search needs)
-    (λ c. search needs)
-    (λ c. search needs)
+    (λ c. search needs) (λ c. search needs) (λ c. search needs) (λ c. search needs)
     (λ c. let l = c .before .before .before in stop _ _ _ (l .before .loop .inv .1) (le-leb _ _ (c .if1 .taken)) (l .loop-test .taken))
     (λ c. search needs)
     (λ c. search needs)
