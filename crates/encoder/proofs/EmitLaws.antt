@@ -4,8 +4,8 @@ use mathlib.Core.List.{List, [], _∷_, _++_}
 use Prim.Native.Nat.{ℕ, suc, _+_, _-_, _≤_, _<_}
 use native.Mathlib.Nat.{le-refl}
 use native.Mathlib.Omega.{arith}
-use lib.ListN.{length, getD, take, drop, length-drop}
-use lib.Seq.{length-take-le, getD-take, getD-drop}
+use lib.ListN.{length, getD, take, drop}
+use lib.Seq.{getD-take, getD-drop}
 use lib.IntN.{ℤ, pos}
 use Rattle.lists.specs.Upto.{upTo}
 use Rattle.lists.proofs.UptoLaws.{list-same, list-singles}
@@ -17,6 +17,7 @@ use Rattle.diagram.specs.Lent.{Lent, lent, options, nodes, asked, width, firstE
 use Rattle.diagram.specs.Sound.{Sound}
 use Rattle.diagram.specs.Numbers.{valueNumber, referenceNumber, edgeNumber, firstValue, values, valueVariable, referenceVariable}
 use Rattle.diagram.proofs.ShapedLaws.{asked-in, edge-sums, edges-most}
+use Rattle.diagram.proofs.RangeLaws.{part-length}
 use Rattle.diagram.proofs.NumberLaws.{value-sums, values-most, target-most}
 use Rattle.encoder.specs.Clauses.{oneOf, allValues, pair, edition1, units, t2to5, t1, t1to5, nodeClauses, optionClauses, clauses}
 use Rattle.encoder.specs.Emit.{lentEdge, lentNode, Small}
@@ -111,8 +112,8 @@ module _ (d : Lent) (s : Sound d) {D n : ℕ} (eD : D ≡ values d) (en : n ≡ 
   within : firstEdge d v + width d v ≤ length (d .targets)
   within = omega (arith, s .counted, edge-sums d .room v (nodes d) h)
 
-  part-length : length part ≡ width d v
-  part-length = length-take-le (edge + width d v - edge) (drop edge (d .targets)) (omega (arith, within, length-drop edge (d .targets))) ∙ omega arith
+  as-wide : length part ≡ width d v
+  as-wide = part-length (d .targets) edge (edge + width d v) (omega (arith, within)) ∙ omega arith
 
   part-target : (j : ℕ) → j < width d v → getD part j 0 ≡ target d v j
   part-target j l =
@@ -124,15 +125,15 @@ module _ (d : Lent) (s : Sound d) {D n : ℕ} (eD : D ≡ values d) (en : n ≡ 
   part-small = record {
     few-values = omega (arith, values-most d (s .shaped) (options d) (le-refl _));
     few-nodes = omega (arith, s .shaped .nodes-fit);
-    few-before = omega (arith, part-length, value-sums d .room (asked d v) (options d) (asked-in d (s .shaped) v h), values-most d (s .shaped) (options d) (le-refl _));
-    few-edges = omega (arith, part-length, edge-sums d .room v (nodes d) h, edges-most d (s .shaped) (nodes d) (le-refl _));
-    few-targets = λ j l. let k : j < width d v = omega (arith, part-length) in omega (arith, part-target j k, target-most d s v j h k, s .shaped .nodes-fit);
+    few-before = omega (arith, as-wide, value-sums d .room (asked d v) (options d) (asked-in d (s .shaped) v h), values-most d (s .shaped) (options d) (le-refl _));
+    few-edges = omega (arith, as-wide, edge-sums d .room v (nodes d) h, edges-most d (s .shaped) (nodes d) (le-refl _));
+    few-targets = λ j l. let k : j < width d v = omega (arith, as-wide) in omega (arith, part-target j k, target-most d s v j h k, s .shaped .nodes-fit);
   }
 
   pub part-node : lentNode D n b edge part v ≡ nodeClauses d v
   part-node =
       let two : v + 2 ≡ suc (suc v) = omega arith in
-      rw (eD, en, eb, part-length, two)
+      rw (eD, en, eb, as-wide, two)
       (ap (λ (cs : List Clause). t1 (referenceVariable d (suc (suc v))) (λ j. edgeNumber (values d) (nodes d) (edge + j)) (width d v) ∷ cs)
       (list-same _ _ (width d v) (λ j l. ap (λ (m : ℕ). t2to5 (edgeNumber (values d) (nodes d) (edge + j)) (referenceVariable d (suc (suc v))) (referenceVariable d m) (valueVariable d (asked d v) j)) (part-target j l)))
       ∙ ap (λ (e : ℕ). t1to5 (referenceVariable d (suc (suc v))) (λ j. edgeNumber (values d) (nodes d) (e + j)) (λ j. t2to5 (edgeNumber (values d) (nodes d) (e + j)) (referenceVariable d (suc (suc v))) (referenceVariable d (target d v j)) (valueVariable d (asked d v) j)) (width d v)) ee)
