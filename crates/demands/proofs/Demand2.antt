@@ -15,7 +15,7 @@ use Rattle.diagram.specs.Sound.{Sound}
 use Rattle.cnf.specs.Clause.{words}
 use Rattle.cnf.specs.declared.EncodeAnswer.{EncodeAnswer}
 use Rattle.cnf.proofs.EncodedLaws.{written-list}
-use Rattle.encoder.specs.Clauses.{edition1, clauses, lastVariable}
+use Rattle.clauses.specs.Clauses.{edition1, clauses, lastVariable}
 use Rattle.encoder.specs.Emit.{pairCount}
 use Rattle.encoder.specs.Promise.{encodeRules, EncodePromise}
 use Rattle.encoder.proofs.CountLaws.{pair-twice, clause-count, word-count, last-variable, clauses-most, words-most, variables-most}

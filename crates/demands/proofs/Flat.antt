@@ -10,7 +10,7 @@ use Rattle.cnf.specs.Clause.{words}
 use Rattle.diagram.specs.Lent.{Lent, lent, options, nodes, domain, layer, width, firstEdge, edges}
 use Rattle.diagram.specs.Numbers.{firstValue, values}
 use Rattle.diagram.specs.Sound.{Within, LayerFits, Permitted, to-false, Sound}
-use Rattle.encoder.specs.Clauses.{edition1, clauses, lastVariable}
+use Rattle.clauses.specs.Clauses.{edition1, clauses, lastVariable}
 use Rattle.encoder.specs.Emit.{pairCount}
 use Rattle.encoder.proofs.CountLaws.{last-variable, clauses-by-pairs, words-by-pairs}
 

@@ -8,7 +8,7 @@ use Rattle.cnf.specs.Clause.{words}
 use Rattle.diagram.specs.Lent.{firstEdge, step, walk}
 use Rattle.diagram.specs.Numbers.{firstValue}
 use Rattle.diagram.specs.Rules.{badLayer, permits, owner, badTarget, optionRules, nodeRules, targetRules, checkRules}
-use Rattle.encoder.specs.Clauses.{firstHelper, clauses}
+use Rattle.clauses.specs.Clauses.{firstHelper, clauses}
 use Rattle.demands.specs.Samples.{Holds, samples}
 
 pub samples-hold : Each Holds samples

@@ -11,7 +11,7 @@ use Rattle.cnf.specs.Clause.{plain, negated, words}
 use Rattle.diagram.specs.Lent.{Lent, lent}
 use Rattle.diagram.specs.Rules.{checkRules}
 use Rattle.judge.specs.Promise.{allowsTest}
-use Rattle.encoder.specs.Clauses.{edition1, lastVariable, clauses}
+use Rattle.clauses.specs.Clauses.{edition1, lastVariable, clauses}
 
 pub data Sample : Type 0 where
   -- the diagram's words are these

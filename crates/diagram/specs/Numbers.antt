@@ -2,7 +2,7 @@
 -- variable has the number 0. Assumes nothing.
 use Prim.Native.Nat.{ℕ, suc, _+_}
 use Rattle.lists.specs.Upto.{sumTo}
-use Rattle.diagram.specs.Lent.{Lent, options, nodes, domain, firstEdge, edges}
+use Rattle.diagram.specs.Lent.{Lent, options, domain}
 
 -- option i has value j, where the options before it have `before` values together: 1 + before + j
 abbrev pub valueNumber : ℕ → ℕ → ℕ
@@ -28,16 +28,3 @@ module _ (d : Lent) where
   -- D
   abbrev pub values : ℕ
   values = firstValue (options d)
-
-  abbrev pub valueVariable : ℕ → ℕ → ℕ
-  valueVariable i j = valueNumber (firstValue i) j
-
-  abbrev pub referenceVariable : ℕ → ℕ
-  referenceVariable r = referenceNumber values r
-
-  abbrev pub edgeVariable : ℕ → ℕ → ℕ
-  edgeVariable v j = edgeNumber values (nodes d) (firstEdge d v + j)
-
-  -- the last number of values, references and edges
-  abbrev pub variables : ℕ
-  variables = lastNumber values (nodes d) (edges d)

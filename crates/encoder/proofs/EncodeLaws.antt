@@ -23,7 +23,7 @@ use Rattle.diagram.specs.Rules.{checkRules}
 use Rattle.diagram.specs.Promise.{countsOf}
 use Rattle.diagram.specs.declared.Diagram.{Diagram}
 use Rattle.diagram.proofs.SoundLaws.{check-faithful, passed-sound, sound-passed}
-use Rattle.encoder.specs.Clauses.{Edition, edition1, clauses, lastVariable}
+use Rattle.clauses.specs.Clauses.{Edition, edition1, clauses, lastVariable}
 use Rattle.encoder.specs.Emit.{Tallied}
 use Rattle.encoder.specs.Promise.{needed, encodeTable, encodeRules, EncodePromise}
 use Rattle.encoder.proofs.CountLaws.{allPairs, last-variable, clauses-by-pairs, words-by-pairs}

@@ -8,7 +8,7 @@ use Rattle.cnf.specs.Clause.{Clause}
 use Rattle.cnf.specs.declared.Tally.{Tally}
 use Rattle.diagram.specs.Numbers.{valueNumber, referenceNumber, edgeNumber, lastNumber}
 use Rattle.diagram.specs.declared.Diagram.{Diagram}
-use Rattle.encoder.specs.Clauses.{t2to5, t1to5}
+use Rattle.clauses.specs.Clauses.{t2to5, t1to5}
 
 -- a node whose first edge is number `edge`, whose option has b values before it, and whose targets are ts, in a diagram
 -- of D values and s nodes

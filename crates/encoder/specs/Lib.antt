@@ -1,4 +1,3 @@
 -- What this crate defines. Assumes nothing.
-pub mod Clauses
 pub mod Emit
 pub mod Promise

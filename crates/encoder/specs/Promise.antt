@@ -12,7 +12,7 @@ use Rattle.cnf.specs.declared.EncodeAnswer.{EncodeAnswer}
 use Rattle.diagram.specs.Lent.{Lent}
 use Rattle.diagram.specs.Sound.{checkTable}
 use Rattle.diagram.specs.Rules.{checkRules}
-use Rattle.encoder.specs.Clauses.{Edition, clauses, lastVariable}
+use Rattle.clauses.specs.Clauses.{Edition, clauses, lastVariable}
 
 module _ (e : Edition) (d : Lent) where
   -- the length needed

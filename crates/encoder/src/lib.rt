@@ -19,7 +19,7 @@ ghost use Rattle.diagram.specs.Lent.{lent};
 ghost use Rattle.diagram.specs.Sound.{Within, Sound};
 ghost use Rattle.diagram.specs.Promise.{countsOf};
 ghost use Rattle.diagram.specs.Numbers.{firstValue};
-ghost use Rattle.encoder.specs.Clauses.{oneOf, allValues, pairsAfter, pairs, pairwise, edition1, units, t2to5, t1, nodeClauses, optionClauses, clauses, lastVariable};
+ghost use Rattle.clauses.specs.Clauses.{oneOf, allValues, pairsAfter, pairs, pairwise, edition1, units, t2to5, t1, nodeClauses, optionClauses, clauses, lastVariable};
 ghost use Rattle.encoder.specs.Emit.{lentEdge, lentNode, Small, pairCount, Tallied};
 ghost use Rattle.encoder.specs.Promise.{needed, EncodePromise};
 

@@ -15,7 +15,7 @@ use Rattle.diagram.specs.Lent.{Lent, lent, options, nodes}
 use Rattle.diagram.specs.Numbers.{values}
 use Rattle.diagram.specs.declared.Diagram.{Diagram}
 use Rattle.encoder.proofs.EmitLaws.{units-length, list-words}
-use Rattle.encoder.specs.Clauses.{edition1, optionClauses, units, nodeClauses, clauses}
+use Rattle.clauses.specs.Clauses.{edition1, optionClauses, units, nodeClauses, clauses}
 use Rattle.encoder.proofs.emit_all.Statement.{statement}
 use Rattle.encoder.proofs.emit_all.Tie as tie
 

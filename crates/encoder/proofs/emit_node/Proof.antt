@@ -10,7 +10,7 @@ use Rattle.lists.proofs.BufferLaws.{then, wrote-as, first-room, then-room, to-f
 use Rattle.lists.specs.Upto.{upTo}
 use Rattle.cnf.specs.Clause.{words}
 use Rattle.encoder.proofs.EmitLaws.{lent-words}
-use Rattle.encoder.specs.Clauses.{t1}
+use Rattle.clauses.specs.Clauses.{t1}
 use Rattle.encoder.specs.Emit.{lentEdge, lentNode}
 use Rattle.encoder.proofs.emit_node.Statement.{statement}
 use Rattle.encoder.proofs.emit_node.Tie as tie

@@ -18,7 +18,7 @@ use Rattle.diagram.specs.Numbers.{firstValue, values}
 use Rattle.diagram.specs.Sound.{Within, Sound}
 use Rattle.diagram.specs.declared.Diagram.{Diagram}
 use Rattle.encoder.proofs.EmitLaws.{each-room, each-wrote, part-small, part-node}
-use Rattle.encoder.specs.Clauses.{nodeClauses}
+use Rattle.clauses.specs.Clauses.{nodeClauses}
 use Rattle.encoder.specs.Emit.{lentNode, Small}
 use Rattle.encoder.proofs.emit_nodes.Statement.{statement}
 use Rattle.encoder.proofs.emit_nodes.Tie as tie

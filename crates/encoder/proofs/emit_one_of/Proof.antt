@@ -7,7 +7,7 @@ use borrow.Author.Needs.{needs}
 use Rattle.lists.proofs.BufferLaws.{kept, begin, turn, room, finish}
 use Rattle.lists.specs.Buffer.{Wrote}
 use Rattle.cnf.specs.Clause.{plain}
-use Rattle.encoder.specs.Clauses.{oneOf}
+use Rattle.clauses.specs.Clauses.{oneOf}
 use Rattle.encoder.proofs.emit_one_of.Statement.{statement}
 use Rattle.encoder.proofs.emit_one_of.Tie as tie
 

@@ -9,7 +9,7 @@ use borrow.Author.Needs.{needs}
 use Rattle.lists.proofs.BufferLaws.{then, wrote-as, first-room, then-room}
 use Rattle.cnf.specs.Clause.{words}
 use Rattle.encoder.proofs.EmitLaws.{more-words}
-use Rattle.encoder.specs.Clauses.{allValues, pairs}
+use Rattle.clauses.specs.Clauses.{allValues, pairs}
 use Rattle.encoder.proofs.emit_option.Statement.{statement}
 use Rattle.encoder.proofs.emit_option.Tie as tie
 

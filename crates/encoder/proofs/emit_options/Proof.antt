@@ -13,7 +13,7 @@ use Rattle.diagram.proofs.NumberLaws.{value-sums}
 use Rattle.diagram.specs.Lent.{Lent, lent, domain}
 use Rattle.diagram.specs.Numbers.{firstValue}
 use Rattle.encoder.proofs.EmitLaws.{each-room, each-wrote}
-use Rattle.encoder.specs.Clauses.{pairwise, edition1, optionClauses}
+use Rattle.clauses.specs.Clauses.{pairwise, edition1, optionClauses}
 use Rattle.encoder.proofs.emit_options.Statement.{statement}
 use Rattle.encoder.proofs.emit_options.Tie as tie
 

@@ -8,7 +8,7 @@ use Rattle.lists.specs.Buffer.{Wrote}
 use Rattle.lists.specs.Upto.{upTo}
 use Rattle.cnf.specs.Clause.{Clause, words}
 use Rattle.encoder.proofs.EmitLaws.{each-room, each-wrote}
-use Rattle.encoder.specs.Clauses.{pairsAfter}
+use Rattle.clauses.specs.Clauses.{pairsAfter}
 use Rattle.encoder.proofs.emit_pairs.Statement.{statement}
 use Rattle.encoder.proofs.emit_pairs.Tie as tie
 

@@ -9,7 +9,7 @@ use Rattle.lists.specs.Buffer.{Wrote}
 use Rattle.lists.specs.Upto.{upTo}
 use Rattle.cnf.specs.Clause.{Clause, words}
 use Rattle.encoder.proofs.EmitLaws.{each-room, each-wrote, pair-length, pair-words}
-use Rattle.encoder.specs.Clauses.{pair}
+use Rattle.clauses.specs.Clauses.{pair}
 use Rattle.encoder.proofs.emit_pairs_after.Statement.{statement}
 use Rattle.encoder.proofs.emit_pairs_after.Tie as tie
 

@@ -13,7 +13,7 @@ use Rattle.diagram.specs.Lent.{Lent, lent, options, nodes}
 use Rattle.diagram.specs.declared.Diagram.{Diagram}
 use Rattle.encoder.proofs.CountLaws.{all-pairs-most}
 use Rattle.encoder.proofs.EncodeLaws.{own-tally}
-use Rattle.encoder.specs.Clauses.{edition1, clauses, lastVariable}
+use Rattle.clauses.specs.Clauses.{edition1, clauses, lastVariable}
 use Rattle.encoder.specs.Promise.{needed}
 use Rattle.encoder.proofs.encode_sound.Statement.{statement}
 use Rattle.encoder.proofs.encode_sound.Tie as tie

@@ -5,7 +5,8 @@ use Prim.Native.Nat.{ℕ, suc, _+_, _-_}
 use Rattle.lists.specs.Upto.{sumTo, upTo}
 use Rattle.cnf.specs.Clause.{Clause, plain, negated}
 use Rattle.diagram.specs.Lent.{Lent, options, nodes, domain, asked, width, target}
-use Rattle.diagram.specs.Numbers.{valueNumber, referenceNumber, firstValue, values, valueVariable, referenceVariable, edgeVariable, variables}
+use Rattle.diagram.specs.Numbers.{valueNumber, referenceNumber, firstValue, values}
+use Rattle.clauses.specs.Variables.{valueVariable, referenceVariable, edgeVariable, variables}
 
 -- the clause "one of k variables", where f gives their numbers
 abbrev pub oneOf : (ℕ → ℕ) → ℕ → Clause

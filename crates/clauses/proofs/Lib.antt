@@ -1,0 +1,1 @@
+-- The laws of this crate that others cite. Assumes nothing.
