@@ -1,1 +1,8 @@
 -- The laws of this crate that others cite. Assumes nothing.
+pub mod VariableLaws
+pub mod ExactlyOneLaws
+pub mod Pairs
+pub mod Common
+pub mod OpenValues
+pub mod Decided
+pub mod Satisfied

@@ -1,3 +1,5 @@
 -- What this crate defines. Assumes nothing.
 pub mod Demand2
+pub mod Demand3
+pub mod HalfFinished
 pub mod Samples

@@ -27,6 +27,12 @@ module _ (d : Lent) where
   later-is i r at-true-end h = absurd (omega arith)
   later-is i r (at-node {w = w} k l) h = let e : suc (suc w) - 2 ≡ w = omega arith in rw e (k, l, refl)
 
+  -- and it is a reference that there is
+  pub later-most : (i r : ℕ) → Later i r → r < nodes d + 2
+  later-most i r at-false-end = omega arith
+  later-most i r at-true-end = omega arith
+  later-most i r (at-node h l) = omega arith
+
   permitted-later : (i r : ℕ) → Permitted d i r → Later i r
   permitted-later i r to-false = at-false-end
   permitted-later i r (to-true e) = at-true-end

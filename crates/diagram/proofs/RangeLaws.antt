@@ -13,7 +13,7 @@ use borrow.Author.Tests.{lt-ltb, le-ltb, le-leb, lt-leb, eq-eqb, ltb-true, leb-t
 use Rattle.lists.specs.Upto.{sumTo, lastTo}
 use Rattle.lists.specs.First.{first}
 use Rattle.lists.specs.declared.Found.{Found}
-use Rattle.lists.proofs.UptoLaws.{below-or-not, sum-stretch, is-last, last-is, up-to-last}
+use Rattle.lists.proofs.UptoLaws.{below-or-not, sum-stretch, last-term, last-is, up-to-last}
 use Rattle.lists.proofs.FirstLaws.{first-agrees}
 use Rattle.diagram.specs.Lent.{Lent, lent, options, nodes, domain, layer, width, firstEdge, leads}
 use Rattle.diagram.specs.Sound.{Shaped}
@@ -51,9 +51,7 @@ same-range ds ls ts us i r f t = f t ∙ ap not (same t)
 -- the node whose edge it is
 pub owner-is : (d : Lent) (v e : ℕ) → v < nodes d → firstEdge d v ≤ e → e < firstEdge d (v + 1) → owner d e ≡ v
 unfolding owner
-owner-is d v e h low high =
-    is-last (λ w. leb (firstEdge d w) e) (nodes d) v h (le-leb (firstEdge d v) e low)
-    (λ w l k. lt-leb (firstEdge d w) e (let q : firstEdge d (v + 1) ≤ firstEdge d w = edge-sums d .rise (v + 1) w (omega arith) in omega arith))
+owner-is d v e h low high = last-term (edge-sums d) (nodes d) v e h low (omega (arith, edge-sums d .more v))
 
 module _ (d : Lent) (s : Shaped d) (v next : ℕ) (hv : v < nodes d) (end : LayerEnd (d .layers) v (layer d v) next) where
   pub moves-on : v < next

@@ -9,6 +9,8 @@ use native.Mathlib.Decide.{decLt}
 use native.Mathlib.Numerals.{add-one}
 use native.Mathlib.Omega.{arith}
 use lib.ListN.{length, length-append}
+use lib.Dec.{leb}
+use borrow.Author.Tests.{le-leb, lt-leb}
 use Rattle.lists.specs.Upto.{sumTo, upTo, lastTo}
 
 -- an index below n + 1 is n or below n
@@ -186,3 +188,24 @@ module _ (test : ℕ → Bool) where
       go : (i ≡ n) ⊎ (i < n) → (i < n → lastTo n test ≡ i) → lastTo (suc n) test ≡ i
       go (inl e) r = rw (sym (ap test e) ∙ t) (sym e)
       go (inr l) r = rw (g n l (omega arith)) (r l)
+
+-- where f k entries stand for each k in turn, an entry's index k is the last one at which they begin no later
+pub last-term : {f total : ℕ → ℕ} → Sums f total → (n i u : ℕ) → i < n → total i ≤ u → u < total i + f i → lastTo n (λ k. leb (total k) u) ≡ i
+last-term {f} {total} s n i u h low high =
+    is-last (λ k. leb (total k) u) n i h (le-leb (total i) u low)
+    (λ k l m. lt-leb (total k) u (let q : total i + f i ≤ total k = s .room i k l in omega arith))
+
+-- ---- one of two things at each index
+
+-- one index has the first, or each has the second
+pub either : {A : Type 0} (B : ℕ → Type 0) (n : ℕ) → ((k : ℕ) → k < n → A ⊎ B k) → A ⊎ ((k : ℕ) → k < n → B k)
+either B zero f = inr (λ k h. absurd (not-suc-le-zero h))
+either {A} B (suc n) f = go (f n (omega arith)) (either B n (λ k h. f k (omega arith)))
+  where
+    more : ((k : ℕ) → k < n → B k) → B n → (k : ℕ) → k < suc n → B k
+    more l b k h = ⊎-elim (λ (e : k ≡ n). subst B (sym e) b) (λ h′. l k h′) (last-or-below k n h)
+
+    go : A ⊎ B n → A ⊎ ((k : ℕ) → k < n → B k) → A ⊎ ((k : ℕ) → k < suc n → B k)
+    go (inl a) r = inl a
+    go (inr b) (inl a) = inl a
+    go (inr b) (inr l) = inr (more l b)

@@ -1,0 +1,97 @@
+-- What the encodings of a diagram have in common: the option clauses, T, not F, root, and T1 to T4; and how unit
+-- propagation goes through them. T5 has no part in it. Assumes nothing.
+use mathlib.Core.Path.{_≡_, refl, sym, subst}
+use mathlib.Core.Logic.{_⊎_, inl, inr, ⊎-elim}
+use mathlib.Core.List.{List, [], _∷_, _++_, List·Memᴰ, List·Memᴰ·head, List·Memᴰ·tail, List·Memᴰ·cases-cons, List·Memᴰ·eq-of-singleton, Memᴰ·append-left, Memᴰ·append-right}
+use Prim.Native.Nat.{ℕ, suc, _<_}
+use lib.IntN.{ℤ, negℤ}
+use Rattle.lists.specs.Upto.{upTo}
+use Rattle.lists.specs.Every.{Every}
+use Rattle.lists.proofs.UptoLaws.{in-list}
+use Rattle.cnf.specs.Clause.{Clause, plain, negated, Reached, unit, Conflict}
+use Rattle.cnf.proofs.Propagation.{unit-each}
+use Rattle.diagram.specs.Lent.{Lent, options, nodes, asked, width, target}
+use Rattle.diagram.specs.Numbers.{values}
+use Rattle.clauses.specs.Variables.{valueVariable, referenceVariable, edgeVariable}
+use Rattle.clauses.specs.Clauses.{Edition, units, t1, t2, t3, t4, edgeClauses, nodeClauses, optionClauses, clauses}
+use Rattle.clauses.proofs.Pairs.{one-of-out}
+
+module _ (d : Lent) where
+  -- the variable of node v
+  abbrev pub nodeVariable : ℕ → ℕ
+  nodeVariable v = referenceVariable d (suc (suc v))
+
+  -- that of the target of the edge of value j of node v, and that of its value
+  abbrev pub targetVariable : ℕ → ℕ → ℕ
+  targetVariable v j = referenceVariable d (target d v j)
+
+  abbrev pub askedVariable : ℕ → ℕ → ℕ
+  askedVariable v j = valueVariable d (asked d v) j
+
+pub record Common (e : Edition) (d : Lent) (cs : List Clause) : Type 0 where
+  pub has-option : (i : ℕ) → i < options d → Every (λ c. List·Memᴰ c cs) (optionClauses e d i)
+  pub has-units : Every (λ c. List·Memᴰ c cs) (units (values d))
+  pub has-t1 : (v : ℕ) → v < nodes d → List·Memᴰ (t1 (nodeVariable d v) (λ j. edgeVariable d v j) (width d v)) cs
+  pub has-t2 : (v j : ℕ) → v < nodes d → j < width d v → List·Memᴰ (t2 (edgeVariable d v j) (nodeVariable d v)) cs
+  pub has-t3 : (v j : ℕ) → v < nodes d → j < width d v → List·Memᴰ (t3 (edgeVariable d v j) (targetVariable d v j)) cs
+  pub has-t4 : (v j : ℕ) → v < nodes d → j < width d v → List·Memᴰ (t4 (edgeVariable d v j) (askedVariable d v j)) cs
+
+-- ---- the list has them
+
+module _ (e : Edition) (d : Lent) where
+  in-node : (v : ℕ) → v < nodes d → Every (λ c. List·Memᴰ c (clauses e d)) (nodeClauses d v)
+  unfolding clauses
+  in-node v h c m = Memᴰ·append-right (upTo (options d) (optionClauses e d)) (Memᴰ·append-right (units (values d)) (in-list (nodeClauses d) (nodes d) v h m))
+
+  pub in-edge : (v j : ℕ) → v < nodes d → j < width d v → Every (λ c. List·Memᴰ c (clauses e d)) (edgeClauses d v j)
+  in-edge v j h l c m = in-node v h c (List·Memᴰ·tail (in-list (edgeClauses d v) (width d v) j l m))
+
+  pub clauses-common : Common e d (clauses e d)
+  unfolding clauses
+  clauses-common =
+      record {
+        has-option = λ i h c m. Memᴰ·append-left (units (values d) ++ upTo (nodes d) (nodeClauses d)) (in-list (optionClauses e d) (options d) i h m);
+        has-units = λ c m. Memᴰ·append-right (upTo (options d) (optionClauses e d)) (Memᴰ·append-left (upTo (nodes d) (nodeClauses d)) m);
+        has-t1 = λ v h. in-node v h _ (List·Memᴰ·head refl);
+        has-t2 = λ v j h l. in-edge v j h l _ (List·Memᴰ·head refl);
+        has-t3 = λ v j h l. in-edge v j h l _ (List·Memᴰ·tail (List·Memᴰ·head refl));
+        has-t4 = λ v j h l. in-edge v j h l _ (List·Memᴰ·tail (List·Memᴰ·tail (List·Memᴰ·head refl)));
+      }
+
+-- ---- propagation through them
+
+module _ (e : Edition) (d : Lent) (cs : List Clause) (has : Common e d cs) (Given : ℤ → Type 0) where
+  abbrev R : ℤ → Type 0
+  R = Reached Given cs
+
+  pub true-reached : R (plain (referenceVariable d 1))
+  true-reached = unit-each (plain (referenceVariable d 1) ∷ []) (has .has-units _ (List·Memᴰ·head refl)) (List·Memᴰ·head refl) (inl refl, tt)
+
+  pub false-out : R (negated (referenceVariable d 0))
+  false-out = unit-each (negated (referenceVariable d 0) ∷ []) (has .has-units _ (List·Memᴰ·tail (List·Memᴰ·head refl))) (List·Memᴰ·head refl) (inl refl, tt)
+
+  -- with the root ruled out its own clause is a conflict
+  pub root-conflict : R (negated (referenceVariable d 2)) → Conflict Given cs
+  root-conflict r =
+      record {
+        clause = plain (referenceVariable d 2) ∷ [];
+        among = has .has-units _ (List·Memᴰ·tail (List·Memᴰ·tail (List·Memᴰ·head refl)));
+        against = λ m mm. subst (λ (l : ℤ). R (negℤ l)) (sym (List·Memᴰ·eq-of-singleton mm)) r;
+      }
+
+  module _ (v : ℕ) (hv : v < nodes d) where
+    -- T1: a node with its edges ruled out is ruled out
+    pub t1-step : ((j : ℕ) → j < width d v → R (negated (edgeVariable d v j))) → R (negated (nodeVariable d v))
+    t1-step f = unit (t1 (nodeVariable d v) (λ j. edgeVariable d v j) (width d v)) (has .has-t1 v hv) (List·Memᴰ·head refl) (λ m mm ne. ⊎-elim (λ (q : m ≡ negated (nodeVariable d v)). absurd (ne q)) (one-of-out (λ j. edgeVariable d v j) (width d v) R f m) (List·Memᴰ·cases-cons mm))
+
+    module _ (j : ℕ) (hj : j < width d v) where
+      -- T2: an edge reaches its node
+      pub t2-step : R (plain (edgeVariable d v j)) → R (plain (nodeVariable d v))
+      t2-step r = unit-each (t2 (edgeVariable d v j) (nodeVariable d v)) (has .has-t2 v j hv hj) (List·Memᴰ·tail (List·Memᴰ·head refl)) (inr r, (inl refl, tt))
+
+      -- T3 and T4: an edge with its target, or its value, ruled out is ruled out
+      pub t3-step : R (negated (targetVariable d v j)) → R (negated (edgeVariable d v j))
+      t3-step r = unit-each (t3 (edgeVariable d v j) (targetVariable d v j)) (has .has-t3 v j hv hj) (List·Memᴰ·head refl) (inl refl, (inr r, tt))
+
+      pub t4-step : R (negated (askedVariable d v j)) → R (negated (edgeVariable d v j))
+      t4-step r = unit-each (t4 (edgeVariable d v j) (askedVariable d v j)) (has .has-t4 v j hv hj) (List·Memᴰ·head refl) (inl refl, (inr r, tt))

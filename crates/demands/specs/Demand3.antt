@@ -1,0 +1,63 @@
+-- Demand 3: what the clauses mean. A build has exactly one setting where the diagram allows it, and none where it does not;
+-- every setting that satisfies the clauses is an allowed build. Options, nodes and values count from 0; the root is
+-- reference 2, `last` is V. Assumes nothing.
+use mathlib.Core.Path.{_≡_}
+use mathlib.Core.Logic.{_↔_}
+use mathlib.Core.Bool.{true}
+use mathlib.Core.List.{List}
+use Prim.Native.Nat.{ℕ, _≤_, _<_}
+use lib.IntN.{ℤ}
+use Rattle.cnf.specs.Clause.{Clause, plain, Setting, Satisfies, Conflict}
+use Rattle.diagram.specs.Lent.{Lent, options, domain, AllowsFrom}
+use Rattle.clauses.specs.Variables.{valueVariable}
+
+-- ---- the words of it, for a build that gives option i the value x i
+
+-- the setting agrees with the build: the variable of each option's value is true
+abbrev pub Agrees : Lent → (ℕ → ℕ) → Setting → Type 0
+Agrees d x σ = (i : ℕ) → i < options d → σ (valueVariable d i (x i)) ≡ true
+
+-- a setting for the build: it agrees with the build and satisfies every clause
+pub record SettingFor (d : Lent) (cs : List Clause) (x : ℕ → ℕ) (σ : Setting) : Type 0 where
+  pub agrees : Agrees d x σ
+  pub satisfies : Satisfies σ cs
+
+-- the same on every variable from 1 to V
+abbrev pub SameTo : ℕ → Setting → Setting → Type 0
+SameTo last σ τ = (n : ℕ) → 1 ≤ n → n ≤ last → σ n ≡ τ n
+
+-- the setting gives each option exactly one value, and that is the build's
+abbrev pub Gives : Lent → Setting → (ℕ → ℕ) → Type 0
+Gives d σ x = (i j : ℕ) → i < options d → j < domain d i → (σ (valueVariable d i j) ≡ true) ↔ (j ≡ x i)
+
+-- the build alone: the positive literal of each option's value, and no other literal
+pub record Chosen (d : Lent) (x : ℕ → ℕ) (l : ℤ) : Type 0 where
+  pub option : ℕ
+  pub there : option < options d
+  pub names : l ≡ plain (valueVariable d option (x option))
+
+-- ---- what is said of a build
+
+-- there is a setting for it, and any two agree on every variable
+pub record OneSetting (d : Lent) (last : ℕ) (cs : List Clause) (x : ℕ → ℕ) : Type 0 where
+  pub setting : Setting
+  pub for-it : SettingFor d cs x setting
+  pub no-other : (σ τ : Setting) → SettingFor d cs x σ → SettingFor d cs x τ → SameTo last σ τ
+
+-- there is none, and unit propagation from the build alone reaches a conflict
+pub record NoSetting (d : Lent) (cs : List Clause) (x : ℕ → ℕ) : Type 0 where
+  pub none : (σ : Setting) → SettingFor d cs x σ → ⊥
+  pub conflict : Conflict (Chosen d x) cs
+
+-- ---- the demand, in whatever form builds are given: `IsBuild x` says that x is a build of the diagram's ranges, and
+-- `value x i` is the value that it gives option i
+
+pub record Demand3 (d : Lent) (last : ℕ) (cs : List Clause) {B : Type 0} (IsBuild : B → Type 0) (value : B → ℕ → ℕ) : Type 0 where
+  -- an allowed build has exactly one setting
+  pub allowed : (x : B) → IsBuild x → AllowsFrom d (value x) 2 → OneSetting d last cs (value x)
+  -- one not allowed has none, and propagation from it alone conflicts
+  pub not-allowed : (x : B) → IsBuild x → (AllowsFrom d (value x) 2 → ⊥) → NoSetting d cs (value x)
+  -- every satisfying setting gives each option exactly one value, and that build is allowed
+  pub satisfied : (σ : Setting) → Satisfies σ cs → (x : B) × IsBuild x × Gives d σ (value x) × AllowsFrom d (value x) 2
+  -- settings speak of the variables 1 to V: whether one satisfies the clauses is a matter of these alone
+  pub no-more : (σ τ : Setting) → SameTo last σ τ → Satisfies σ cs → Satisfies τ cs
