@@ -1,7 +1,7 @@
 -- The clauses of a diagram, in order, over the variables' numbers. Options, nodes, edges and values count from 0, and node
 -- v has the reference v + 2. Assumes nothing.
 use mathlib.Core.List.{List, [], _∷_, _++_}
-use Prim.Native.Nat.{ℕ, suc, _+_, _-_}
+use Prim.Native.Nat.{ℕ, suc, _+_, _-_, _*_, _/_}
 use Rattle.lists.specs.Upto.{sumTo, upTo}
 use Rattle.cnf.specs.Clause.{Clause, plain, negated}
 use Rattle.diagram.specs.Lent.{Lent, options, nodes, domain, asked, width, target}
@@ -29,6 +29,10 @@ pairsAfter b i n = upTo n (λ t. pair b i (i + 1 + t) ∷ [])
 -- each value with those after it: the pairs i < j, i first and then j
 abbrev pub pairs : ℕ → ℕ → List Clause
 pairs b k = upTo k (λ i. pairsAfter b i (k - 1 - i))
+
+-- how many they are
+abbrev pub pairCount : ℕ → ℕ
+pairCount k = k * (k - 1) / 2
 
 abbrev pub pairwise : ℕ → ℕ → List Clause
 pairwise b k = allValues b k ∷ pairs b k

@@ -15,11 +15,10 @@ use Rattle.diagram.specs.Sound.{Sound}
 use Rattle.cnf.specs.Clause.{words}
 use Rattle.cnf.specs.declared.EncodeAnswer.{EncodeAnswer}
 use Rattle.cnf.proofs.EncodedLaws.{written-list}
-use Rattle.clauses.specs.Clauses.{edition1, clauses, lastVariable}
-use Rattle.encoder.specs.Emit.{pairCount}
+use Rattle.clauses.specs.Clauses.{pairCount, edition1, clauses, lastVariable}
 use Rattle.encoder.specs.Promise.{encodeRules, EncodePromise}
-use Rattle.encoder.proofs.CountLaws.{pair-twice, clause-count, word-count, last-variable, clauses-most, words-most, variables-most}
-use Rattle.encoder.proofs.LiteralLaws.{edition1-own, literal-within, closed-list, zeros-list, clauses-back, word-within}
+use Rattle.clauses.proofs.CountLaws.{pair-twice, clause-count, word-count, last-variable, clauses-most, words-most, variables-most}
+use Rattle.clauses.proofs.LiteralLaws.{edition1-own, literal-within, closed-list, zeros-list, clauses-back, word-within}
 use Rattle.encoder.proofs.EncodeLaws.{encode-written}
 use Rattle.demands.specs.Demand2.{ExactlyTheList, Counts, Numbers, Maxima, Attains, largest, WellFormed}
 use Rattle.demands.proofs.Flat.{Flat, flat-sound, flat-clauses, flat-words, flat-variables}

@@ -10,9 +10,8 @@ use Rattle.cnf.specs.Clause.{words}
 use Rattle.diagram.specs.Lent.{Lent, lent, options, nodes, domain, layer, width, firstEdge, edges}
 use Rattle.diagram.specs.Numbers.{firstValue, values}
 use Rattle.diagram.specs.Sound.{Within, LayerFits, Permitted, to-false, Sound}
-use Rattle.clauses.specs.Clauses.{edition1, clauses, lastVariable}
-use Rattle.encoder.specs.Emit.{pairCount}
-use Rattle.encoder.proofs.CountLaws.{last-variable, clauses-by-pairs, words-by-pairs}
+use Rattle.clauses.specs.Clauses.{pairCount, edition1, clauses, lastVariable}
+use Rattle.clauses.proofs.CountLaws.{last-variable, clauses-by-pairs, words-by-pairs}
 
 sum-equal : (f : ℕ → ℕ) (c n m : ℕ) → n ≡ m → ((i : ℕ) → i < n → f i ≡ c) → sumTo n f ≡ c * m
 sum-equal f c n m e h = sum-same f (λ i. c) n h ∙ sum-const c n ∙ ap (λ (l : ℕ). c * l) e

@@ -1,5 +1,7 @@
 -- The theorems of the demands, and the samples. Assumes nothing.
 pub mod Flat
 pub mod Orders
+pub mod Meaning
 pub mod Demand2
+pub mod Demand3
 pub mod Samples

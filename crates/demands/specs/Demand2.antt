@@ -13,10 +13,10 @@ use Rattle.cnf.specs.Clause.{Clause, words}
 use Rattle.cnf.specs.Encoded.{tally}
 use Rattle.cnf.specs.Words.{clausesOf, zeros, closed}
 use Rattle.diagram.specs.Lent.{Lent, lent, options, nodes, domain, layer}
-use Rattle.clauses.specs.Variables.{valueVariable, referenceVariable, edgeVariable}
 use Rattle.diagram.specs.Sound.{Within, Sound}
 use Rattle.cnf.specs.declared.Encoded.the-variants.{Written}
 use Rattle.cnf.specs.declared.EncodeAnswer.{EncodeAnswer}
+use Rattle.clauses.specs.Variables.{valueVariable, referenceVariable, edgeVariable}
 use Rattle.clauses.specs.Clauses.{Edition, edition1, lastVariable, clauses}
 
 -- what `encode` has done where the diagram is sound and its words fit: it has answered with the list's own counts, the

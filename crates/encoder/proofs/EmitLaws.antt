@@ -16,10 +16,10 @@ use Rattle.cnf.proofs.WordsLaws.{words-none, words-one, words-append, words-upT
 use Rattle.diagram.specs.Lent.{Lent, lent, options, nodes, asked, width, firstEdge, leads, target}
 use Rattle.diagram.specs.Sound.{Sound}
 use Rattle.diagram.specs.Numbers.{valueNumber, referenceNumber, edgeNumber, firstValue, values}
-use Rattle.clauses.specs.Variables.{valueVariable, referenceVariable}
 use Rattle.diagram.proofs.ShapedLaws.{asked-in, edge-sums, edges-most}
 use Rattle.diagram.proofs.RangeLaws.{part-length}
 use Rattle.diagram.proofs.NumberLaws.{value-sums, values-most, target-most}
+use Rattle.clauses.specs.Variables.{valueVariable, referenceVariable}
 use Rattle.clauses.specs.Clauses.{oneOf, allValues, pair, edition1, units, t2to5, t1, t1to5, nodeClauses, optionClauses, clauses}
 use Rattle.encoder.specs.Emit.{lentEdge, lentNode, Small}
 

@@ -1,5 +1,3 @@
 -- The laws of this crate that others cite. Assumes nothing.
 pub mod EmitLaws
-pub mod CountLaws
-pub mod LiteralLaws
 pub mod EncodeLaws

@@ -2,7 +2,7 @@
 -- the diagram than that; and the three counts by sums. Assumes nothing.
 use mathlib.Core.Path.{_≡_}
 use mathlib.Core.List.{List}
-use Prim.Native.Nat.{ℕ, _+_, _-_, _*_, _/_, _≤_, _<_}
+use Prim.Native.Nat.{ℕ, _+_, _*_, _≤_, _<_}
 use lib.ListN.{length, getD}
 use Rattle.cnf.specs.Clause.{Clause}
 use Rattle.cnf.specs.declared.Tally.{Tally}
@@ -28,10 +28,6 @@ module _ (D s b edge : ℕ) (ts : List ℕ) where
     pub few-before : b + length ts ≤ 2048
     pub few-edges : edge + length ts ≤ 131072
     pub few-targets : (j : ℕ) → j < length ts → getD ts j 0 ≤ 4097
-
--- how many pairs k values have
-abbrev pub pairCount : ℕ → ℕ
-pairCount k = k * (k - 1) / 2
 
 -- words, clauses and V, from a diagram's counts and how many pairs its options have together
 pub record Tallied (c : Diagram) (pairs : ℕ) (t : Tally) : Type 0 where

@@ -19,8 +19,8 @@ ghost use Rattle.diagram.specs.Lent.{lent};
 ghost use Rattle.diagram.specs.Sound.{Within, Sound};
 ghost use Rattle.diagram.specs.Promise.{countsOf};
 ghost use Rattle.diagram.specs.Numbers.{firstValue};
-ghost use Rattle.clauses.specs.Clauses.{oneOf, allValues, pairsAfter, pairs, pairwise, edition1, units, t2to5, t1, nodeClauses, optionClauses, clauses, lastVariable};
-ghost use Rattle.encoder.specs.Emit.{lentEdge, lentNode, Small, pairCount, Tallied};
+ghost use Rattle.clauses.specs.Clauses.{oneOf, allValues, pairsAfter, pairs, pairCount, pairwise, edition1, units, t2to5, t1, nodeClauses, optionClauses, clauses, lastVariable};
+ghost use Rattle.encoder.specs.Emit.{lentEdge, lentNode, Small, Tallied};
 ghost use Rattle.encoder.specs.Promise.{needed, EncodePromise};
 
 // ---- one word at `at`: a variable's literal, its negation, and what closes a clause. Each answers the index past it.

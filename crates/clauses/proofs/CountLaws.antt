@@ -12,12 +12,11 @@ use Rattle.cnf.specs.Clause.{Clause, plain, words}
 use Rattle.cnf.proofs.WordsLaws.{length-more, length-both, length-upTo, length-each}
 use Rattle.diagram.specs.Lent.{Lent, options, nodes, domain, asked, width, target, firstEdge, edges}
 use Rattle.diagram.specs.Numbers.{firstValue, values, valueNumber}
-use Rattle.clauses.specs.Variables.{valueVariable, referenceVariable, edgeVariable, variables}
 use Rattle.diagram.specs.Sound.{Shaped}
 use Rattle.diagram.proofs.ShapedLaws.{edges-most}
 use Rattle.diagram.proofs.NumberLaws.{values-most}
-use Rattle.clauses.specs.Clauses.{allValues, pair, pairsAfter, pairs, pairwise, Edition, edition1, units, t2to5, t1, t1to5, nodeClauses, firstHelper, lastVariable, optionClauses, clauses}
-use Rattle.encoder.specs.Emit.{pairCount}
+use Rattle.clauses.specs.Variables.{valueVariable, referenceVariable, edgeVariable, variables}
+use Rattle.clauses.specs.Clauses.{allValues, pair, pairsAfter, pairs, pairCount, pairwise, Edition, edition1, units, t2to5, t1, t1to5, nodeClauses, firstHelper, lastVariable, optionClauses, clauses}
 
 -- ---- pairs
 

@@ -18,11 +18,11 @@ use Rattle.cnf.specs.Words.{clausesOf, zeros, closed, NoZeros}
 use Rattle.cnf.proofs.WordsLaws.{word-of, clauses-words, zeros-words, closed-words}
 use Rattle.diagram.specs.Lent.{Lent, options, nodes, domain, asked, width, target}
 use Rattle.diagram.specs.Numbers.{valueNumber, referenceNumber, firstValue, values}
-use Rattle.clauses.specs.Variables.{valueVariable, referenceVariable, edgeVariable}
 use Rattle.diagram.specs.Sound.{Within, Sound}
 use Rattle.diagram.proofs.ShapedLaws.{asked-in, edge-sums}
 use Rattle.diagram.proofs.NumberLaws.{value-sums, target-most}
+use Rattle.clauses.specs.Variables.{valueVariable, referenceVariable, edgeVariable}
 use Rattle.clauses.specs.Clauses.{oneOf, pair, pairsAfter, pairwise, Edition, helperNumber, edition1, units, t2to5, t1to5, nodeClauses, firstHelper, lastVariable, optionClauses, clauses}
 
 -- ---- what holds of the variable of each literal
 

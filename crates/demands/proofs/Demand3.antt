@@ -1,0 +1,98 @@
+-- Demand 3 holds: of the list, in whatever edition is "exactly one" and speaks of its own variables, and so in edition 1;
+-- of what `encode` has written; and of what `judge` answers. Assumes nothing.
+use mathlib.Core.Path.{_≡_, refl, sym, _∙_, ap, subst}
+use mathlib.Core.List.{List}
+use Prim.Native.Nat.{ℕ, zero, suc, _+_, _<_}
+use native.Mathlib.Omega.{arith}
+use lib.IntN.{ℤ}
+use lib.ListN.{take}
+use Rattle.cnf.specs.Clause.{Clause, Satisfies, words}
+use Rattle.cnf.specs.Words.{clausesOf}
+use Rattle.cnf.specs.declared.Encoded.the-variants.{Written}
+use Rattle.cnf.specs.declared.EncodeAnswer.{EncodeAnswer}
+use Rattle.cnf.specs.declared.Tally.{Tally}
+use Rattle.diagram.specs.Lent.{Lent, options, nodes, domain, chosen, Allows, Build}
+use Rattle.diagram.specs.Sound.{Sound}
+use Rattle.diagram.specs.Numbers.{firstValue}
+use Rattle.diagram.proofs.AllowsLaws.{Later, at-false-end, at-true-end, at-node, Ranked, sound-ranked}
+use Rattle.judge.specs.Build.{Fits}
+use Rattle.judge.specs.Promise.{JudgePromise}
+use Rattle.judge.specs.declared.Judged.the-variants.{Allowed, NotAllowed}
+use Rattle.judge.specs.declared.JudgeAnswer.{JudgeAnswer}
+use Rattle.judge.proofs.JudgeLaws.{allowed-exactly, not-allowed-exactly}
+use Rattle.clauses.specs.Clauses.{Edition, edition1, firstHelper, lastVariable, optionClauses, clauses}
+use Rattle.clauses.specs.ExactlyOne.{ExactlyOne}
+use Rattle.clauses.proofs.VariableLaws.{of-value, of-reference, of-edge, of-helper}
+use Rattle.clauses.proofs.Pairs.{edition1-one}
+use Rattle.clauses.proofs.Common.{clauses-common}
+use Rattle.clauses.proofs.Decided.{arrives, taken, clauses-t5, reference-decided, edge-decided}
+use Rattle.clauses.proofs.Satisfied.{stands-satisfies}
+use Rattle.clauses.proofs.LiteralLaws.{OwnVariables, edition1-own, literal-within, clauses-back}
+use Rattle.encoder.specs.Promise.{EncodePromise}
+use Rattle.encoder.proofs.EncodeLaws.{encode-written}
+use Rattle.demands.specs.Demand2.{ExactlyTheList}
+use Rattle.demands.specs.Demand3.{Chosen, OneSetting, NoSetting, Demand3}
+use Rattle.demands.specs.HalfFinished.{HalfFinished}
+use Rattle.demands.proofs.Demand2.{exactly-the-list}
+use Rattle.demands.proofs.Meaning.{chosen-reached, buildSetting, Meant, demand3-of, half-finished-of, demand3-listed}
+
+-- ---- the list, in any edition
+
+module _ (e : Edition) (one : ExactlyOne e) (own : OwnVariables e) (d : Lent) (s : Sound d) where
+  abbrev ok : Ranked d
+  ok = sound-ranked d s
+
+  reference-later : (r : ℕ) → r < nodes d + 2 → Later d 0 r
+  reference-later zero h = at-false-end
+  reference-later (suc zero) h = at-true-end
+  reference-later (suc (suc w)) h = at-node {w = w} (omega arith) (ok .layers-fit w (omega arith) .0)
+
+  -- T5 beside the common part: a reference and an edge are what they stand for
+  meant : (x : ℕ → ℕ) → Build d x → Allows d x → Meant e one d (clauses e d) x
+  meant x b a =
+      record {
+        reference = arrives d x;
+        edge = taken d x;
+        satisfied = stands-satisfies d ok x b _ record { value-is = of-value e d _ _ _ _; reference-is = of-reference e d _ _ _ _; edge-is = of-edge e d _ _ _ _ } e options-held a;
+        reference-decided = λ r h. reference-decided e one d (clauses e d) (clauses-common e d) x b (Chosen d x) (chosen-reached d x (clauses e d)) ok (clauses-t5 e d) 0 r (reference-later r h);
+        edge-decided = edge-decided e one d (clauses e d) (clauses-common e d) x b (Chosen d x) (chosen-reached d x (clauses e d)) ok (clauses-t5 e d);
+      }
+    where
+      options-held : (i : ℕ) → i < options d → Satisfies (buildSetting e one d (arrives d x) (taken d x) x) (optionClauses e d i)
+      options-held i h = one .satisfied (firstValue d i) (firstHelper e d i) (domain d i) (x i) (b i h) _ (λ j l. of-value e d _ _ _ _ i j h l) (λ t l. of-helper e d _ _ _ _ i t h l)
+
+  pub demand3-in : Demand3 d (lastVariable e d) (clauses e d) (Build d) (λ x. x)
+  demand3-in = demand3-of e one d ok (clauses e d) (clauses-common e d) meant (literal-within e d own s)
+
+  pub half-finished-in : HalfFinished d (clauses e d)
+  half-finished-in = half-finished-of e one d ok (clauses e d) (clauses-common e d) meant (literal-within e d own s)
+
+-- ---- edition 1
+
+pub demand3 : (d : Lent) → Sound d → Demand3 d (lastVariable edition1 d) (clauses edition1 d) (Build d) (λ x. x)
+demand3 = demand3-in edition1 edition1-one edition1-own
+
+-- builds as lists of n values, the form in which the library takes them
+pub demand3-lists : (d : Lent) → Sound d → Demand3 d (lastVariable edition1 d) (clauses edition1 d) (Fits d) chosen
+demand3-lists d s = demand3-listed d (sound-ranked d s) (demand3 d s)
+
+pub half-finished : (d : Lent) → Sound d → HalfFinished d (clauses edition1 d)
+half-finished = half-finished-in edition1 edition1-one edition1-own
+
+-- ---- what the library has written and answered
+
+-- the clauses that the buffer's words tell, with V as the answer gives it
+pub demand3-written : (d : Lent) (before : List ℤ) (answer : EncodeAnswer) (after : List ℤ) → EncodePromise edition1 d before answer after → (t : Tally) → answer .outcome ≡ Written t → Demand3 d (t .variables) (clausesOf (take (t .words) after)) (Fits d) chosen
+demand3-written d before answer after p t q =
+    let w = encode-written edition1 d before answer after p t .0 q in
+    let l = exactly-the-list d before answer after p (w .0 .0) (w .0 .1) in
+    rw (w .1) (rw (l .the-words, clauses-back edition1 d edition1-own (w .0 .0)) (demand3-lists d (w .0 .0)))
+
+module _ (d : Lent) (build : List ℕ) (answer : JudgeAnswer) (promise : JudgePromise d build answer) where
+  -- where the judge says "allowed" the build has exactly one setting
+  pub allowed-setting : answer .outcome ≡ Allowed → OneSetting d (lastVariable edition1 d) (clauses edition1 d) (chosen build)
+  allowed-setting q = let w = allowed-exactly d build answer promise .0 q in demand3-lists d (w .0 .0) .allowed build (w .0 .1) (w .1)
+
+  -- where it says "not allowed", none, and a conflict
+  pub not-allowed-setting : answer .outcome ≡ NotAllowed → NoSetting d (clauses edition1 d) (chosen build)
+  not-allowed-setting q = let w = not-allowed-exactly d build answer promise .0 q in demand3-lists d (w .0 .0) .not-allowed build (w .0 .1) (w .1)
