@@ -6,5 +6,5 @@ pub mod Common
 pub mod OpenValues
 pub mod Decided
 pub mod Satisfied
-pub mod CountLaws
+pub mod SizeLaws
 pub mod LiteralLaws

@@ -58,7 +58,7 @@ module _ (e : Edition) (d : Lent) (value : ℕ → ℕ → Bool) (reference : �
   abbrev below : ℕ → Bool
   below = beside (values d) valueAt afterValues
 
-  pub settingOf : Setting
+  unfoldable pub settingOf : Setting
   settingOf zero = false
   settingOf (suc u) = below u
 

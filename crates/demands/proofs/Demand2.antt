@@ -17,7 +17,7 @@ use Rattle.cnf.specs.declared.EncodeAnswer.{EncodeAnswer}
 use Rattle.cnf.proofs.EncodedLaws.{written-list}
 use Rattle.clauses.specs.Clauses.{pairCount, edition1, clauses, lastVariable}
 use Rattle.encoder.specs.Promise.{encodeRules, EncodePromise}
-use Rattle.clauses.proofs.CountLaws.{pair-twice, clause-count, word-count, last-variable, clauses-most, words-most, variables-most}
+use Rattle.clauses.proofs.SizeLaws.{pair-twice, clause-count, word-count, last-variable, clauses-most, words-most, variables-most}
 use Rattle.clauses.proofs.LiteralLaws.{edition1-own, literal-within, closed-list, zeros-list, clauses-back, word-within}
 use Rattle.encoder.proofs.EncodeLaws.{encode-written}
 use Rattle.demands.specs.Demand2.{ExactlyTheList, Counts, Numbers, Maxima, Attains, largest, WellFormed}

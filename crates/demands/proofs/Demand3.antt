@@ -6,7 +6,7 @@ use Prim.Native.Nat.{ℕ, zero, suc, _+_, _<_}
 use native.Mathlib.Omega.{arith}
 use lib.IntN.{ℤ}
 use lib.ListN.{take}
-use Rattle.cnf.specs.Clause.{Clause, Satisfies, words}
+use Rattle.cnf.specs.Clause.{Setting, Satisfies}
 use Rattle.cnf.specs.Words.{clausesOf}
 use Rattle.cnf.specs.declared.Encoded.the-variants.{Written}
 use Rattle.cnf.specs.declared.EncodeAnswer.{EncodeAnswer}
@@ -31,10 +31,11 @@ use Rattle.clauses.proofs.LiteralLaws.{OwnVariables, edition1-own, literal-with
 use Rattle.encoder.specs.Promise.{EncodePromise}
 use Rattle.encoder.proofs.EncodeLaws.{encode-written}
 use Rattle.demands.specs.Demand2.{ExactlyTheList}
-use Rattle.demands.specs.Demand3.{Chosen, OneSetting, NoSetting, Demand3}
+use Rattle.demands.specs.Demand3.{SettingFor, SameTo, Chosen, OneSetting, NoSetting, Demand3}
 use Rattle.demands.specs.HalfFinished.{HalfFinished}
 use Rattle.demands.proofs.Demand2.{exactly-the-list}
-use Rattle.demands.proofs.Meaning.{chosen-reached, buildSetting, Meant, demand3-of, half-finished-of, demand3-listed}
+use Rattle.demands.proofs.Meaning.{chosen-reached, buildSetting, Meant, forced-setting, demand3-of, half-finished-of}
+use Rattle.demands.proofs.Listed.{demand3-listed}
 
 -- ---- the list, in any edition
 
@@ -60,6 +61,12 @@ module _ (e : Edition) (one : ExactlyOne e) (own : OwnVariables e) (d : Lent) (s
     where
       options-held : (i : ℕ) → i < options d → Satisfies (buildSetting e one d (arrives d x) (taken d x) x) (optionClauses e d i)
       options-held i h = one .satisfied (firstValue d i) (firstHelper e d i) (domain d i) (x i) (b i h) _ (λ j l. of-value e d _ _ _ _ i j h l) (λ t l. of-helper e d _ _ _ _ i t h l)
+
+  -- the setting of an allowed build: a reference is true exactly where the walk from it ends at T, and an edge exactly where
+  -- it is that of the build's value and the walk goes on to T
+  pub setting-is : (x : ℕ → ℕ) → Build d x → Allows d x → (σ : Setting) → SettingFor d (clauses e d) x σ → SameTo (lastVariable e d) σ (buildSetting e one d (arrives d x) (taken d x) x)
+  unfolding meant
+  setting-is x b a σ p = forced-setting e one d ok (clauses e d) (clauses-common e d) x b σ p (meant x b a)
 
   pub demand3-in : Demand3 d (lastVariable e d) (clauses e d) (Build d) (λ x. x)
   demand3-in = demand3-of e one d ok (clauses e d) (clauses-common e d) meant (literal-within e d own s)

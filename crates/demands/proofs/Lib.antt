@@ -2,6 +2,8 @@
 pub mod Flat
 pub mod Orders
 pub mod Meaning
+pub mod Listed
 pub mod Demand2
 pub mod Demand3
 pub mod Samples
+pub mod Picture

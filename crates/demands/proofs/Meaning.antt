@@ -1,28 +1,21 @@
 -- Demand 3 for every list of clauses that has the common part, that an allowed build's own setting satisfies, and whose
--- propagation decides the references and the edges of an allowed build; and for builds in either form. Assumes nothing.
+-- propagation decides the references and the edges of an allowed build. Assumes nothing.
 use mathlib.Core.Path.{_≡_, refl, sym, _∙_, ap, subst}
-use mathlib.Core.Logic.{_⊎_, inl, inr, _↔_}
+use mathlib.Core.Logic.{_↔_}
 use mathlib.Core.Bool.{Bool, true, false, not, true≢false}
-use mathlib.Core.List.{List, [], _∷_, _++_, List·Memᴰ}
+use mathlib.Core.List.{List, List·Memᴰ}
 use Prim.Native.Nat.{ℕ, zero, suc, _+_, _≤_, _<_}
 use native.Mathlib.Decide.{ℕ-discrete}
-use native.Mathlib.Nat.{not-suc-le-zero}
-use native.Mathlib.Omega.{arith}
 use lib.IntN.{ℤ, pos, negsuc, natAbs}
-use lib.ListN.{length, List·getD-append}
-use lib.Seq.{getD-at}
 use lib.Dec.{eqb}
 use borrow.Author.Tests.{eqb-true, eq-eqb, ne-eqb}
-use Rattle.lists.specs.Upto.{upTo}
-use Rattle.lists.proofs.UptoLaws.{decide, last-or-below, list-singles}
 use Rattle.lists.proofs.ChoiceLaws.{choose}
-use Rattle.cnf.specs.Clause.{Clause, plain, negated, says, Setting, holds, Held, Satisfies, Reached, given, Conflict}
+use Rattle.cnf.specs.Clause.{Clause, plain, says, Setting, holds, Satisfies, Reached, given}
 use Rattle.cnf.proofs.Propagation.{said, reached-holds, no-conflict}
-use Rattle.diagram.specs.Lent.{Lent, options, nodes, domain, width, chosen, end, Allows, Build, AllowsFrom}
+use Rattle.diagram.specs.Lent.{Lent, options, nodes, domain, width, end, Allows, Build, AllowsFrom}
 use Rattle.diagram.specs.Sound.{Within}
 use Rattle.diagram.specs.Numbers.{firstValue}
-use Rattle.diagram.proofs.AllowsLaws.{Ranked, end-agrees, root-later, allows-exactly}
-use Rattle.judge.specs.Build.{Fits}
+use Rattle.diagram.proofs.AllowsLaws.{Ranked, allows-exactly}
 use Rattle.clauses.specs.Variables.{valueVariable, referenceVariable, edgeVariable}
 use Rattle.clauses.specs.Clauses.{Edition, helperNumber, firstHelper, lastVariable, optionClauses}
 use Rattle.clauses.specs.ExactlyOne.{ExactlyOne}
@@ -83,7 +76,7 @@ module _ (e : Edition) (one : ExactlyOne e) (d : Lent) (ok : Ranked d) (cs : Lis
         go (no n) = forced _ false (value-out e one d cs has x b (Chosen d x) (chosen-reached d x cs) i j h hj n) ∙ sym (ne-eqb j (x i) n)
 
     -- it is the build's own setting, on every variable
-    forced-setting : (m : Meant e one d cs x) → SameTo (lastVariable e d) σ (buildSetting e one d (m .reference) (m .edge) x)
+    pub forced-setting : (m : Meant e one d cs x) → SameTo (lastVariable e d) σ (buildSetting e one d (m .reference) (m .edge) x)
     forced-setting m = every-variable e d (λ n. σ n ≡ buildSetting e one d (m .reference) (m .edge) x n)
         (λ i j h l. forced-value i j h l ∙ sym (of-value e d _ _ _ _ i j h l))
         (λ r h. forced _ _ (m .reference-decided r h) ∙ sym (of-reference e d _ _ _ _ r h))
@@ -148,37 +141,3 @@ module _ (e : Edition) (one : ExactlyOne e) (d : Lent) (ok : Ranked d) (cs : Lis
         ordered-holds : (o : Order) (x : ℕ → ℕ) → FitsOrder d o x → (σ : Setting) → ((i j : ℕ) → i < options d → j < domain d i → σ (valueVariable d i j) ≡ eqb j (x i)) → (l : ℤ) → Ordered d o l → holds σ l ≡ true
         ordered-holds o x f σ v l (in-order i j h hj p q) = subst (λ (m : ℤ). holds σ m ≡ true) (sym q) (v i j h hj ∙ eq-eqb j (x i) (f .keeps-in i j h hj p))
         ordered-holds o x f σ v l (out-of-order i j h hj p q) = subst (λ (m : ℤ). holds σ m ≡ true) (sym q) (ap not (v i j h hj ∙ ne-eqb j (x i) (λ w. true≢false (sym p ∙ ap (o .ruledOut i) w ∙ f .keeps-out i h))))
-
--- ---- builds as lists
-
--- the list of n values of a build
-abbrev pub listed : ℕ → (ℕ → ℕ) → List ℕ
-listed n x = upTo n (λ i. x i ∷ [])
-
-pub listed-at : (n : ℕ) (x : ℕ → ℕ) (i : ℕ) → i < n → chosen (listed n x) i ≡ x i
-unfolding upTo
-listed-at zero x i h = absurd (not-suc-le-zero h)
-listed-at (suc n) x i h = go (last-or-below i n h) (listed-at n x i)
-  where
-    go : (i ≡ n) ⊎ (i < n) → (i < n → chosen (listed n x) i ≡ x i) → chosen (listed n x ++ (x n ∷ [])) i ≡ x i
-    go (inl e) r = rw e (getD-at (listed n x) (x n) [] 0 n (list-singles n x))
-    go (inr l) r = List·getD-append (listed n x) (x n ∷ []) 0 i (omega (arith, list-singles n x)) ∙ r l
-
-module _ (d : Lent) (ok : Ranked d) where
-  listed-fits : (x : ℕ → ℕ) → Build d x → Fits d (listed (options d) x)
-  listed-fits x b = record { whole = list-singles (options d) x; in-domain = λ i h. rw (listed-at (options d) x i h) (b i h) }
-
-  listed-allows : (x : ℕ → ℕ) → Build d x → AllowsFrom d x 2 → AllowsFrom d (chosen (listed (options d) x)) 2
-  listed-allows x b a =
-      allows-exactly d ok (chosen (listed (options d) x)) (listed-fits x b .in-domain) .0
-      (sym (end-agrees d ok x b (chosen (listed (options d) x)) 0 2 (root-later d ok) (λ i p h. sym (listed-at (options d) x i h))) ∙ allows-exactly d ok x b .1 a)
-
-  -- the demand for builds as functions is the demand for builds as lists
-  pub demand3-listed : {last : ℕ} {cs : List Clause} → Demand3 d last cs (Build d) (λ x. x) → Demand3 d last cs (Fits d) chosen
-  demand3-listed m =
-      record {
-        allowed = λ build f a. m .allowed (chosen build) (f .in-domain) a;
-        not-allowed = λ build f n. m .not-allowed (chosen build) (f .in-domain) n;
-        satisfied = λ σ s. let t = m .satisfied σ s in (listed (options d) (t .0), listed-fits (t .0) (t .1), (λ i j h l. rw (listed-at (options d) (t .0) i h) (t .2 i j h l)), listed-allows (t .0) (t .1) (t .3));
-        no-more = m .no-more;
-      }

@@ -8,7 +8,8 @@ use native.Mathlib.Nat.{eq-or-lt-of-le, not-suc-le-zero, add-zero, mul-suc, suc-
 use native.Mathlib.Decide.{decLt}
 use native.Mathlib.Numerals.{add-one}
 use native.Mathlib.Omega.{arith}
-use lib.ListN.{length, length-append}
+use lib.ListN.{length, length-append, getD, List·getD-append}
+use lib.Seq.{getD-at}
 use lib.Dec.{leb}
 use borrow.Author.Tests.{le-leb, lt-leb}
 use Rattle.lists.specs.Upto.{sumTo, upTo, lastTo}
@@ -128,6 +129,15 @@ module _ {ℓ} {A : Type ℓ} (f : ℕ → List A) where
 -- one entry at each index
 pub list-singles {ℓ} : {A : Type ℓ} (n : ℕ) (f : ℕ → A) → length (upTo n (λ k. f k ∷ [])) ≡ n
 list-singles n f = list-length (λ k. f k ∷ []) n ∙ sum-const 1 n ∙ omega arith
+
+pub list-at {ℓ} : {A : Type ℓ} (a : A) (f : ℕ → A) (n i : ℕ) → i < n → getD (upTo n (λ k. f k ∷ [])) i a ≡ f i
+unfolding upTo
+list-at a f zero i h = absurd (not-suc-le-zero h)
+list-at a f (suc n) i h = go (last-or-below i n h) (list-at a f n i)
+  where
+    go : (i ≡ n) ⊎ (i < n) → (i < n → getD (upTo n (λ k. f k ∷ [])) i a ≡ f i) → getD (upTo n (λ k. f k ∷ []) ++ (f n ∷ [])) i a ≡ f i
+    go (inl e) r = rw e (getD-at (upTo n (λ k. f k ∷ [])) (f n) [] a n (list-singles n f))
+    go (inr l) r = List·getD-append (upTo n (λ k. f k ∷ [])) (f n ∷ []) a i (omega (arith, list-singles n f)) ∙ r l
 
 -- the same at each index
 pub list-same {ℓ} : {A : Type ℓ} (f g : ℕ → List A) (n : ℕ) → ((k : ℕ) → k < n → f k ≡ g k) → upTo n f ≡ upTo n g
