@@ -6,15 +6,14 @@ use mathlib.Core.List.{List, [], _∷_, _++_, List·Memᴰ, List·Memᴰ·head, 
 use Prim.Native.Nat.{ℕ, suc, _<_}
 use lib.IntN.{ℤ, negℤ}
 use Rattle.lists.specs.Upto.{upTo}
-use Rattle.lists.specs.Every.{Every}
 use Rattle.lists.proofs.UptoLaws.{in-list}
-use Rattle.cnf.specs.Clause.{Clause, plain, negated, Reached, unit, Conflict}
-use Rattle.cnf.proofs.Propagation.{unit-each}
+use Rattle.cnf.specs.Clause.{Clause, plain, negated, Among, Reached, unit, Conflict}
+use Rattle.cnf.proofs.Propagation.{unit-each, first-reached, second-reached}
 use Rattle.diagram.specs.Lent.{Lent, options, nodes, asked, width, target}
 use Rattle.diagram.specs.Numbers.{values}
 use Rattle.clauses.specs.Variables.{valueVariable, referenceVariable, edgeVariable}
 use Rattle.clauses.specs.Clauses.{Edition, units, t1, t2, t3, t4, edgeClauses, nodeClauses, optionClauses, clauses}
-use Rattle.clauses.proofs.Pairs.{one-of-out}
+use Rattle.clauses.proofs.OneOf.{one-of-out}
 
 module _ (d : Lent) where
   -- the variable of node v
@@ -29,8 +28,8 @@ module _ (d : Lent) where
   askedVariable v j = valueVariable d (asked d v) j
 
 pub record Common (e : Edition) (d : Lent) (cs : List Clause) : Type 0 where
-  pub has-option : (i : ℕ) → i < options d → Every (λ c. List·Memᴰ c cs) (optionClauses e d i)
-  pub has-units : Every (λ c. List·Memᴰ c cs) (units (values d))
+  pub has-option : (i : ℕ) → i < options d → Among (optionClauses e d i) cs
+  pub has-units : Among (units (values d)) cs
   pub has-t1 : (v : ℕ) → v < nodes d → List·Memᴰ (t1 (nodeVariable d v) (λ j. edgeVariable d v j) (width d v)) cs
   pub has-t2 : (v j : ℕ) → v < nodes d → j < width d v → List·Memᴰ (t2 (edgeVariable d v j) (nodeVariable d v)) cs
   pub has-t3 : (v j : ℕ) → v < nodes d → j < width d v → List·Memᴰ (t3 (edgeVariable d v j) (targetVariable d v j)) cs
@@ -39,11 +38,11 @@ pub record Common (e : Edition) (d : Lent) (cs : List Clause) : Type 0 where
 -- ---- the list has them
 
 module _ (e : Edition) (d : Lent) where
-  in-node : (v : ℕ) → v < nodes d → Every (λ c. List·Memᴰ c (clauses e d)) (nodeClauses d v)
+  in-node : (v : ℕ) → v < nodes d → Among (nodeClauses d v) (clauses e d)
   unfolding clauses
   in-node v h c m = Memᴰ·append-right (upTo (options d) (optionClauses e d)) (Memᴰ·append-right (units (values d)) (in-list (nodeClauses d) (nodes d) v h m))
 
-  pub in-edge : (v j : ℕ) → v < nodes d → j < width d v → Every (λ c. List·Memᴰ c (clauses e d)) (edgeClauses d v j)
+  pub in-edge : (v j : ℕ) → v < nodes d → j < width d v → Among (edgeClauses d v j) (clauses e d)
   in-edge v j h l c m = in-node v h c (List·Memᴰ·tail (in-list (edgeClauses d v) (width d v) j l m))
 
   pub clauses-common : Common e d (clauses e d)
@@ -87,11 +86,11 @@ module _ (e : Edition) (d : Lent) (cs : List Clause) (has : Common e d cs) (Give
     module _ (j : ℕ) (hj : j < width d v) where
       -- T2: an edge reaches its node
       pub t2-step : R (plain (edgeVariable d v j)) → R (plain (nodeVariable d v))
-      t2-step r = unit-each (t2 (edgeVariable d v j) (nodeVariable d v)) (has .has-t2 v j hv hj) (List·Memᴰ·tail (List·Memᴰ·head refl)) (inr r, (inl refl, tt))
+      t2-step = second-reached (has .has-t2 v j hv hj)
 
       -- T3 and T4: an edge with its target, or its value, ruled out is ruled out
       pub t3-step : R (negated (targetVariable d v j)) → R (negated (edgeVariable d v j))
-      t3-step r = unit-each (t3 (edgeVariable d v j) (targetVariable d v j)) (has .has-t3 v j hv hj) (List·Memᴰ·head refl) (inl refl, (inr r, tt))
+      t3-step = first-reached (has .has-t3 v j hv hj)
 
       pub t4-step : R (negated (askedVariable d v j)) → R (negated (edgeVariable d v j))
-      t4-step r = unit-each (t4 (edgeVariable d v j) (askedVariable d v j)) (has .has-t4 v j hv hj) (List·Memᴰ·head refl) (inl refl, (inr r, tt))
+      t4-step = first-reached (has .has-t4 v j hv hj)

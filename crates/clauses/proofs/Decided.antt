@@ -16,7 +16,7 @@ use Rattle.diagram.specs.Numbers.{firstValue}
 use Rattle.diagram.proofs.AllowsLaws.{Later, Ranked, asked-option, every-reference, walk-true, walk-false, end-step}
 use Rattle.clauses.specs.Variables.{valueVariable, referenceVariable, edgeVariable}
 use Rattle.clauses.specs.Clauses.{Edition, firstHelper, t5, clauses}
-use Rattle.clauses.specs.ExactlyOne.{ExactlyOne}
+use Rattle.clauses.specs.Editions.{ExactlyOne}
 use Rattle.clauses.proofs.Common.{Common, nodeVariable, targetVariable, askedVariable, in-edge, true-reached, false-out, t1-step, t2-step, t3-step, t4-step}
 
 -- ---- what a reference and an edge stand for

@@ -1,7 +1,7 @@
 -- A setting that satisfies an option's clauses makes exactly one of its values true, in whatever edition. Assumes nothing.
-use mathlib.Core.Path.{_≡_, refl, sym, _∙_, ap, subst}
+use mathlib.Core.Path.{_≡_, refl, sym, _∙_, ap}
 use mathlib.Core.Logic.{_⊎_, ⊎-elim}
-use mathlib.Core.Bool.{true, false}
+use mathlib.Core.Bool.{true, false, not}
 use Prim.Native.Nat.{ℕ, suc, _+_, _<_}
 use native.Mathlib.Decide.{ℕ-discrete}
 use lib.Dec.{eqb}
@@ -9,40 +9,29 @@ use lib.IntN.{ℤ}
 use borrow.Author.Tests.{eq-eqb, ne-eqb}
 use Rattle.lists.specs.Upto.{lastTo}
 use Rattle.lists.proofs.UptoLaws.{last-is}
-use Rattle.cnf.specs.Clause.{plain, negated, Setting, holds, Satisfies, given}
+use Rattle.cnf.specs.Clause.{Setting, holds, Satisfies, given}
 use Rattle.cnf.proofs.Propagation.{said, reached-holds, no-conflict}
 use Rattle.diagram.specs.Numbers.{valueNumber}
 use Rattle.clauses.specs.Clauses.{Edition}
-use Rattle.clauses.specs.ExactlyOne.{ExactlyOne}
+use Rattle.clauses.specs.Editions.{ExactlyOne}
 
 module _ (e : Edition) (one : ExactlyOne e) (b h k : ℕ) (σ : Setting) (s : Satisfies σ (e .option b h k)) where
-  -- given one value, and given that there is none
-  Only : ℕ → ℤ → Type 0
-  Only j l = l ≡ plain (valueNumber b j)
+  -- given: whatever the setting makes true
+  abbrev True : ℤ → Type 0
+  True l = holds σ l ≡ true
 
-  None : ℤ → Type 0
-  None l = (j : ℕ) × (j < k) × (l ≡ negated (valueNumber b j))
-
-  pub no-second : (i j : ℕ) → i < k → j < k → (i ≡ j → ⊥) → σ (valueNumber b j) ≡ true → σ (valueNumber b i) ≡ false
-  unfolding Only
-  no-second i j hi hj n p = said σ false (b + i) (reached-holds σ s only-holds (one .rules-out b h k (Only j) (e .option b h k) (λ c m. m) i j hi hj n (given refl)))
-    where
-      only-holds : (l : ℤ) → Only j l → holds σ l ≡ true
-      only-holds l q = subst (λ (m : ℤ). holds σ m ≡ true) (sym q) p
+  no-second : (i j : ℕ) → i < k → j < k → (i ≡ j → ⊥) → σ (valueNumber b j) ≡ true → σ (valueNumber b i) ≡ false
+  no-second i j hi hj n p = said σ false (b + i) (reached-holds σ s (λ l q. q) (one .rules-out b h k True (e .option b h k) (λ c m. m) i j hi hj n (given p)))
 
   -- the last value that is true
   abbrev last : ℕ
   last = lastTo k (λ j. σ (valueNumber b j))
 
   some : (last < k) × (σ (valueNumber b last) ≡ true)
-  unfolding None
   some = ⊎-elim (λ r. r) none (last-is (λ j. σ (valueNumber b j)) k)
     where
       none : ((j : ℕ) → j < k → σ (valueNumber b j) ≡ false) → (last < k) × (σ (valueNumber b last) ≡ true)
-      none f = absurd (no-conflict σ s off (one .conflicts b h k None (e .option b h k) (λ c m. m) (λ j hj. given (j, hj, refl))))
-        where
-          off : (l : ℤ) → None l → holds σ l ≡ true
-          off l t = subst (λ (m : ℤ). holds σ m ≡ true) (sym (t .2)) (rw (f (t .0) (t .1)) refl)
+      none f = absurd (no-conflict σ s (λ l q. q) (one .conflicts b h k True (e .option b h k) (λ c m. m) (λ j hj. given (ap not (f j hj)))))
 
   -- one value is true, and no other
   pub one-value : (j : ℕ) × (j < k) × ((i : ℕ) → i < k → σ (valueNumber b i) ≡ eqb i j)

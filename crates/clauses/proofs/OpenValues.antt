@@ -17,7 +17,7 @@ use Rattle.diagram.specs.Numbers.{firstValue}
 use Rattle.diagram.proofs.AllowsLaws.{Later, Ranked, asked-option, every-reference, walk-true, end-step, end-agrees, root-later}
 use Rattle.clauses.specs.Variables.{valueVariable, referenceVariable, edgeVariable}
 use Rattle.clauses.specs.Clauses.{Edition, firstHelper}
-use Rattle.clauses.specs.ExactlyOne.{ExactlyOne}
+use Rattle.clauses.specs.Editions.{ExactlyOne}
 use Rattle.clauses.proofs.Common.{Common, nodeVariable, targetVariable, false-out, root-conflict, t1-step, t3-step, t4-step}
 
 -- the build takes open values alone

@@ -11,15 +11,15 @@ use Rattle.lists.specs.Upto.{upTo}
 use Rattle.lists.specs.Every.{Every, Each}
 use Rattle.lists.proofs.EveryLaws.{every-more, every-both, every-upTo, each-every}
 use Rattle.cnf.specs.Clause.{Clause, plain, negated, Setting, holds, Held, Satisfies}
-use Rattle.cnf.proofs.Propagation.{held-first, held-later}
+use Rattle.cnf.proofs.Propagation.{held-first, held-second, held-later}
 use Rattle.diagram.specs.Lent.{Lent, options, nodes, domain, layer, asked, width, target, end, Allows, Build}
 use Rattle.diagram.specs.Numbers.{firstValue, values}
 use Rattle.diagram.proofs.AllowsLaws.{Ranked, asked-option, later-most, walk-true, walk-false}
 use Rattle.clauses.specs.Variables.{valueVariable, referenceVariable, edgeVariable}
 use Rattle.clauses.specs.Clauses.{Edition, helperNumber, units, t1, t5, edgeClauses, nodeClauses, firstHelper, optionClauses, clauses}
-use Rattle.clauses.specs.ExactlyOne.{ExactlyOne}
+use Rattle.clauses.specs.Editions.{ExactlyOne}
 use Rattle.clauses.proofs.VariableLaws.{settingOf, of-value, of-reference, of-edge, of-helper}
-use Rattle.clauses.proofs.Pairs.{one-of-held}
+use Rattle.clauses.proofs.OneOf.{one-of-held}
 use Rattle.clauses.proofs.Common.{nodeVariable, targetVariable, askedVariable}
 use Rattle.clauses.proofs.Decided.{arrives, taken, arrives-step}
 
@@ -66,13 +66,13 @@ module _ (d : Lent) (ok : Ranked d) (x : ℕ → ℕ) (b : Build d x) (σ : Sett
         off n h = (held-first σ _ _ n, (held-first σ _ _ n, (held-first σ _ _ n, (h, tt))))
 
         go : (q : Bool) → eqb j (x (asked d v)) ≡ q → (g : Bool) → arrives d x (target d v j) ≡ g → Each (Held σ) (edgeClauses d v j)
-        go false p g r = off (ap not (edge false p g r)) (held-later σ _ _ (held-first σ _ _ (ap not (value ∙ p))))
+        go false p g r = off (ap not (edge false p g r)) (held-second σ _ _ _ (ap not (value ∙ p)))
         go true p false r = off (ap not (edge true p false r)) (held-first σ _ _ (ap not (leads-to ∙ r)))
         go true p true r = (
-          held-later σ _ _ (held-first σ _ _ (node-is ∙ rw (← eqb-true j (x (asked d v)) p) r)),
+          held-second σ _ _ _ (node-is ∙ rw (← eqb-true j (x (asked d v)) p) r),
           (
-            held-later σ _ _ (held-first σ _ _ (leads-to ∙ r)),
-            (held-later σ _ _ (held-first σ _ _ (value ∙ p)), (held-later σ _ _ (held-later σ _ _ (held-first σ _ _ (edge true p true r))), tt)),
+            held-second σ _ _ _ (leads-to ∙ r),
+            (held-second σ _ _ _ (value ∙ p), (held-later σ _ _ (held-second σ _ _ _ (edge true p true r)), tt)),
           ),
         )
 

@@ -1,4 +1,4 @@
 -- What this crate defines. Assumes nothing.
 pub mod Variables
 pub mod Clauses
-pub mod ExactlyOne
+pub mod Editions

@@ -1,14 +1,14 @@
 -- Laws of unit propagation: what it reaches holds in every satisfying setting that has the given literals, and from more
 -- literals and clauses it reaches more. Assumes nothing.
 use mathlib.Core.Path.{_≡_, refl, sym, _∙_, ap, subst}
-use mathlib.Core.Logic.{_⊎_, ⊎-elim}
+use mathlib.Core.Logic.{_⊎_, inl, inr, ⊎-elim}
 use mathlib.Core.Bool.{Bool, true, false, not, false≢true}
-use mathlib.Core.List.{List, _∷_, List·Memᴰ, List·Memᴰ·head, List·Memᴰ·tail}
+use mathlib.Core.List.{List, [], _∷_, List·Memᴰ, List·Memᴰ·head, List·Memᴰ·tail}
 use Prim.Native.Nat.{ℕ, zero, suc}
 use lib.IntN.{ℤ, pos, negsuc, negℤ, ℤ-discrete}
 use Rattle.lists.specs.Every.{Each}
 use Rattle.lists.proofs.EveryLaws.{each-every}
-use Rattle.cnf.specs.Clause.{Clause, Setting, says, holds, Held, Satisfies, Reached, given, unit, Conflict}
+use Rattle.cnf.specs.Clause.{Clause, Setting, says, holds, Held, Satisfies, Among, Reached, given, unit, Conflict}
 
 -- ---- literals under a setting
 
@@ -26,6 +26,9 @@ module _ (σ : Setting) where
   pub held-later : (l : ℤ) (c : Clause) → Held σ c → Held σ (l ∷ c)
   held-later l c h = record { lit = h .lit; among = List·Memᴰ·tail (h .among); true-there = h .true-there }
 
+  pub held-second : (l m : ℤ) (c : Clause) → holds σ m ≡ true → Held σ (l ∷ m ∷ c)
+  held-second l m c h = held-later l (m ∷ c) (held-first m c h)
+
   -- a literal that says b of a variable, and holds, gives the variable the value b
   pub said : (b : Bool) (u : ℕ) → holds σ (says b (suc u)) ≡ true → σ (suc u) ≡ b
   said true u h = h
@@ -41,6 +44,13 @@ module _ {Given : ℤ → Type 0} {cs : List Clause} where
   -- a literal of a clause of which each other one is ruled out
   pub unit-each : (c : Clause) {l : ℤ} → List·Memᴰ c cs → List·Memᴰ l c → Each (λ m. (m ≡ l) ⊎ Reached Given cs (negℤ m)) c → Reached Given cs l
   unit-each c {l} mc ml e = unit c mc ml (λ m mm ne. ⊎-elim (λ (q : m ≡ l). absurd (ne q)) (λ r. r) (each-every (λ m. (m ≡ l) ⊎ Reached Given cs (negℤ m)) c e m mm))
+
+  -- of a clause of two, the one with the other ruled out
+  pub first-reached : {l m : ℤ} → List·Memᴰ (l ∷ m ∷ []) cs → Reached Given cs (negℤ m) → Reached Given cs l
+  first-reached {l} {m} among r = unit-each (l ∷ m ∷ []) among (List·Memᴰ·head refl) (inl refl, (inr r, tt))
+
+  pub second-reached : {l m : ℤ} → List·Memᴰ (l ∷ m ∷ []) cs → Reached Given cs (negℤ l) → Reached Given cs m
+  second-reached {l} {m} among r = unit-each (l ∷ m ∷ []) among (List·Memᴰ·tail (List·Memᴰ·head refl)) (inr r, (inl refl, tt))
 
   -- a setting that satisfies the clauses and has the given literals
   module _ (σ : Setting) (sat : Satisfies σ cs) (has : (l : ℤ) → Given l → holds σ l ≡ true) where
@@ -61,7 +71,7 @@ module _ {Given : ℤ → Type 0} {cs : List Clause} where
 -- ---- more literals and more clauses
 
 -- where each given literal is reached from others, by clauses that are among more
-module _ {Given Given′ : ℤ → Type 0} {cs ds : List Clause} (from : (l : ℤ) → Given l → Reached Given′ ds l) (among : (c : Clause) → List·Memᴰ c cs → List·Memᴰ c ds) where
+module _ {Given Given′ : ℤ → Type 0} {cs ds : List Clause} (from : (l : ℤ) → Given l → Reached Given′ ds l) (among : Among cs ds) where
   pub reached-through : {l : ℤ} → Reached Given cs l → Reached Given′ ds l
   reached-through (given {l = l} g) = from l g
   reached-through (unit c mc ml others) = unit c (among c mc) ml (λ m mm ne. reached-through (others m mm ne))
@@ -70,7 +80,7 @@ module _ {Given Given′ : ℤ → Type 0} {cs ds : List Clause} (from : (l : �
   conflict-through k = record { clause = k .clause; among = among (k .clause) (k .among); against = λ m mm. reached-through (k .against m mm) }
 
 -- from more given literals and more clauses, what was reached still is
-module _ {Given Given′ : ℤ → Type 0} {cs ds : List Clause} (has : (l : ℤ) → Given l → Given′ l) (among : (c : Clause) → List·Memᴰ c cs → List·Memᴰ c ds) where
+module _ {Given Given′ : ℤ → Type 0} {cs ds : List Clause} (has : (l : ℤ) → Given l → Given′ l) (among : Among cs ds) where
   pub reached-more : {l : ℤ} → Reached Given cs l → Reached Given′ ds l
   reached-more = reached-through (λ l g. given (has l g)) among
 

@@ -45,6 +45,10 @@ pub record Held (σ : Setting) (c : Clause) : Type 0 where
 abbrev pub Satisfies : Setting → List Clause → Type 0
 Satisfies σ cs = (c : Clause) → List·Memᴰ c cs → Held σ c
 
+-- each clause of the one list stands in the other
+abbrev pub Among : List Clause → List Clause → Type 0
+Among ds cs = (c : Clause) → List·Memᴰ c ds → List·Memᴰ c cs
+
 -- what unit propagation reaches: the given literals; and a literal that some clause contains, where the negation of each
 -- other literal of that clause is reached
 pub data Reached (Given : ℤ → Type 0) (cs : List Clause) : ℤ → Type 0 where

@@ -15,19 +15,32 @@ use Rattle.diagram.specs.Sound.{Sound}
 use Rattle.cnf.specs.Clause.{words}
 use Rattle.cnf.specs.declared.EncodeAnswer.{EncodeAnswer}
 use Rattle.cnf.proofs.EncodedLaws.{written-list}
-use Rattle.clauses.specs.Clauses.{pairCount, edition1, clauses, lastVariable}
+use Rattle.clauses.specs.Clauses.{Edition, pairCount, edition1, clauses, lastVariable}
+use Rattle.clauses.specs.Editions.{OwnVariables}
 use Rattle.encoder.specs.Promise.{encodeRules, EncodePromise}
-use Rattle.clauses.proofs.SizeLaws.{pair-twice, clause-count, word-count, last-variable, clauses-most, words-most, variables-most}
-use Rattle.clauses.proofs.LiteralLaws.{edition1-own, literal-within, closed-list, zeros-list, clauses-back, word-within}
+use Rattle.clauses.proofs.Edition1.{pair-twice}
+use Rattle.clauses.proofs.Edition1Sizes.{clause-count, word-count, last-variable, clauses-most, words-most, variables-most}
+use Rattle.clauses.proofs.LiteralLaws.{literal-within, closed-list, zeros-list, clauses-back, word-within}
 use Rattle.encoder.proofs.EncodeLaws.{encode-written}
 use Rattle.demands.specs.Demand2.{ExactlyTheList, Counts, Numbers, Maxima, Attains, largest, WellFormed}
 use Rattle.demands.proofs.Flat.{Flat, flat-sound, flat-clauses, flat-words, flat-variables}
 
-pub exactly-the-list : (d : Lent) (before : List ℤ) (answer : EncodeAnswer) (after : List ℤ) → EncodePromise edition1 d before answer after → Sound d → length (words (clauses edition1 d)) ≤ length before → ExactlyTheList edition1 d before answer after
-exactly-the-list d before answer after p s h =
-    let w = encode-written edition1 d before answer after p _ .1 ((s, h), refl) in
-    let l = written-list (clauses edition1 d) (lastVariable edition1 d) before (encodeRules edition1 d (length before)) answer after p _ w in
+-- ---- in any edition
+
+pub exactly-the-list : (e : Edition) (d : Lent) (before : List ℤ) (answer : EncodeAnswer) (after : List ℤ) → EncodePromise e d before answer after → Sound d → length (words (clauses e d)) ≤ length before → ExactlyTheList e d before answer after
+exactly-the-list e d before answer after p s h =
+    let w = encode-written e d before answer after p _ .1 ((s, h), refl) in
+    let l = written-list (clauses e d) (lastVariable e d) before (encodeRules e d (length before)) answer after p _ w in
     record { answered = w; the-words = l .0; the-rest = l .1 }
+
+pub well-formed : (e : Edition) → OwnVariables e → (d : Lent) → Sound d → WellFormed e d
+well-formed e own d s = record { literals = literal-within e d own s; each-word = word-within e d own s; all-closed = closed-list e d; one-zero-each = zeros-list e d own s; told-back = clauses-back e d own s }
+
+pub numbers : (d : Lent) → Numbers d
+unfolding firstValue firstEdge
+numbers d = record { value = λ i j. omega arith; reference = λ r. omega arith; edge = λ v j. omega arith }
+
+-- ---- in edition 1
 
 thrice : (k : ℕ) → 3 * pairCount k ≡ 3 * k * (k - 1) / 2
 thrice k = rw (mul-assoc 3 k (k - 1)) (omega (arith, pair-twice k))
@@ -41,15 +54,8 @@ counts d =
       word-count = word-count d ∙ ap (λ (n : ℕ). 6 + 2 * nodes d + 14 * edges d + n) (sum-same _ _ (options d) (λ i h. omega (arith, thrice (domain d i))));
     }
 
-pub numbers : (d : Lent) → Numbers d
-unfolding firstValue firstEdge
-numbers d = record { value = λ i j. omega arith; reference = λ r. omega arith; edge = λ v j. omega arith }
-
 pub maxima : (d : Lent) → Sound d → Maxima d
 maxima d s = record { few-clauses = clauses-most d (s .shaped); few-words = words-most d (s .shaped); few-variables = variables-most d (s .shaped) }
-
-pub well-formed : (d : Lent) → Sound d → WellFormed edition1 d
-well-formed d s = record { literals = literal-within edition1 d edition1-own s; each-word = word-within edition1 d edition1-own s; all-closed = closed-list edition1 d; one-zero-each = zeros-list edition1 d edition1-own s; told-back = clauses-back edition1 d edition1-own s }
 
 pub attained : Attains largest
 unfolding largest

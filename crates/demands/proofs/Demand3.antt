@@ -21,13 +21,13 @@ use Rattle.judge.specs.declared.Judged.the-variants.{Allowed, NotAllowed}
 use Rattle.judge.specs.declared.JudgeAnswer.{JudgeAnswer}
 use Rattle.judge.proofs.JudgeLaws.{allowed-exactly, not-allowed-exactly}
 use Rattle.clauses.specs.Clauses.{Edition, edition1, firstHelper, lastVariable, optionClauses, clauses}
-use Rattle.clauses.specs.ExactlyOne.{ExactlyOne}
+use Rattle.clauses.specs.Editions.{ExactlyOne, OwnVariables}
 use Rattle.clauses.proofs.VariableLaws.{of-value, of-reference, of-edge, of-helper}
-use Rattle.clauses.proofs.Pairs.{edition1-one}
 use Rattle.clauses.proofs.Common.{clauses-common}
 use Rattle.clauses.proofs.Decided.{arrives, taken, clauses-t5, reference-decided, edge-decided}
 use Rattle.clauses.proofs.Satisfied.{stands-satisfies}
-use Rattle.clauses.proofs.LiteralLaws.{OwnVariables, edition1-own, literal-within, clauses-back}
+use Rattle.clauses.proofs.LiteralLaws.{literal-within, clauses-back}
+use Rattle.clauses.proofs.Edition1.{edition1-one, edition1-own}
 use Rattle.encoder.specs.Promise.{EncodePromise}
 use Rattle.encoder.proofs.EncodeLaws.{encode-written}
 use Rattle.demands.specs.Demand2.{ExactlyTheList}
@@ -74,32 +74,47 @@ module _ (e : Edition) (one : ExactlyOne e) (own : OwnVariables e) (d : Lent) (s
   pub half-finished-in : HalfFinished d (clauses e d)
   half-finished-in = half-finished-of e one d ok (clauses e d) (clauses-common e d) meant (literal-within e d own s)
 
+  -- builds as lists of n values, the form in which the library takes them
+  pub demand3-lists-in : Demand3 d (lastVariable e d) (clauses e d) (Fits d) chosen
+  demand3-lists-in = demand3-listed d ok demand3-in
+
+-- ---- what the library has written and answered, in any edition
+
+module _ (e : Edition) (one : ExactlyOne e) (own : OwnVariables e) (d : Lent) where
+  -- the clauses that the buffer's words tell, with V as the answer gives it
+  pub demand3-written-in : (before : List ℤ) (answer : EncodeAnswer) (after : List ℤ) → EncodePromise e d before answer after → (t : Tally) → answer .outcome ≡ Written t → Demand3 d (t .variables) (clausesOf (take (t .words) after)) (Fits d) chosen
+  demand3-written-in before answer after p t q =
+      let w = encode-written e d before answer after p t .0 q in
+      let l = exactly-the-list e d before answer after p (w .0 .0) (w .0 .1) in
+      rw (w .1) (rw (l .the-words, clauses-back e d own (w .0 .0)) (demand3-lists-in e one own d (w .0 .0)))
+
+  module _ (build : List ℕ) (answer : JudgeAnswer) (promise : JudgePromise d build answer) where
+    -- where the judge says "allowed" the build has exactly one setting
+    pub allowed-setting-in : answer .outcome ≡ Allowed → OneSetting d (lastVariable e d) (clauses e d) (chosen build)
+    allowed-setting-in q = let w = allowed-exactly d build answer promise .0 q in demand3-lists-in e one own d (w .0 .0) .allowed build (w .0 .1) (w .1)
+
+    -- where it says "not allowed", none, and a conflict
+    pub not-allowed-setting-in : answer .outcome ≡ NotAllowed → NoSetting d (clauses e d) (chosen build)
+    not-allowed-setting-in q = let w = not-allowed-exactly d build answer promise .0 q in demand3-lists-in e one own d (w .0 .0) .not-allowed build (w .0 .1) (w .1)
+
 -- ---- edition 1
 
-pub demand3 : (d : Lent) → Sound d → Demand3 d (lastVariable edition1 d) (clauses edition1 d) (Build d) (λ x. x)
-demand3 = demand3-in edition1 edition1-one edition1-own
+module _ (d : Lent) (s : Sound d) where
+  pub demand3 : Demand3 d (lastVariable edition1 d) (clauses edition1 d) (Build d) (λ x. x)
+  demand3 = demand3-in edition1 edition1-one edition1-own d s
 
--- builds as lists of n values, the form in which the library takes them
-pub demand3-lists : (d : Lent) → Sound d → Demand3 d (lastVariable edition1 d) (clauses edition1 d) (Fits d) chosen
-demand3-lists d s = demand3-listed d (sound-ranked d s) (demand3 d s)
+  pub demand3-lists : Demand3 d (lastVariable edition1 d) (clauses edition1 d) (Fits d) chosen
+  demand3-lists = demand3-lists-in edition1 edition1-one edition1-own d s
 
-pub half-finished : (d : Lent) → Sound d → HalfFinished d (clauses edition1 d)
-half-finished = half-finished-in edition1 edition1-one edition1-own
+  pub half-finished : HalfFinished d (clauses edition1 d)
+  half-finished = half-finished-in edition1 edition1-one edition1-own d s
 
--- ---- what the library has written and answered
-
--- the clauses that the buffer's words tell, with V as the answer gives it
 pub demand3-written : (d : Lent) (before : List ℤ) (answer : EncodeAnswer) (after : List ℤ) → EncodePromise edition1 d before answer after → (t : Tally) → answer .outcome ≡ Written t → Demand3 d (t .variables) (clausesOf (take (t .words) after)) (Fits d) chosen
-demand3-written d before answer after p t q =
-    let w = encode-written edition1 d before answer after p t .0 q in
-    let l = exactly-the-list d before answer after p (w .0 .0) (w .0 .1) in
-    rw (w .1) (rw (l .the-words, clauses-back edition1 d edition1-own (w .0 .0)) (demand3-lists d (w .0 .0)))
+demand3-written = demand3-written-in edition1 edition1-one edition1-own
 
 module _ (d : Lent) (build : List ℕ) (answer : JudgeAnswer) (promise : JudgePromise d build answer) where
-  -- where the judge says "allowed" the build has exactly one setting
   pub allowed-setting : answer .outcome ≡ Allowed → OneSetting d (lastVariable edition1 d) (clauses edition1 d) (chosen build)
-  allowed-setting q = let w = allowed-exactly d build answer promise .0 q in demand3-lists d (w .0 .0) .allowed build (w .0 .1) (w .1)
+  allowed-setting = allowed-setting-in edition1 edition1-one edition1-own d build answer promise
 
-  -- where it says "not allowed", none, and a conflict
   pub not-allowed-setting : answer .outcome ≡ NotAllowed → NoSetting d (clauses edition1 d) (chosen build)
-  not-allowed-setting q = let w = not-allowed-exactly d build answer promise .0 q in demand3-lists d (w .0 .0) .not-allowed build (w .0 .1) (w .1)
+  not-allowed-setting = not-allowed-setting-in edition1 edition1-one edition1-own d build answer promise

@@ -11,7 +11,7 @@ use Rattle.diagram.specs.Lent.{Lent, lent, options, nodes, domain, layer, width
 use Rattle.diagram.specs.Numbers.{firstValue, values}
 use Rattle.diagram.specs.Sound.{Within, LayerFits, Permitted, to-false, Sound}
 use Rattle.clauses.specs.Clauses.{pairCount, edition1, clauses, lastVariable}
-use Rattle.clauses.proofs.SizeLaws.{last-variable, clauses-by-pairs, words-by-pairs}
+use Rattle.clauses.proofs.Edition1Sizes.{last-variable, clauses-by-pairs, words-by-pairs}
 
 sum-equal : (f : ℕ → ℕ) (c n m : ℕ) → n ≡ m → ((i : ℕ) → i < n → f i ≡ c) → sumTo n f ≡ c * m
 sum-equal f c n m e h = sum-same f (λ i. c) n h ∙ sum-const c n ∙ ap (λ (l : ℕ). c * l) e

@@ -18,7 +18,7 @@ use Rattle.diagram.specs.Numbers.{firstValue}
 use Rattle.diagram.proofs.AllowsLaws.{Ranked, allows-exactly}
 use Rattle.clauses.specs.Variables.{valueVariable, referenceVariable, edgeVariable}
 use Rattle.clauses.specs.Clauses.{Edition, helperNumber, firstHelper, lastVariable, optionClauses}
-use Rattle.clauses.specs.ExactlyOne.{ExactlyOne}
+use Rattle.clauses.specs.Editions.{ExactlyOne}
 use Rattle.clauses.proofs.ExactlyOneLaws.{one-value}
 use Rattle.clauses.proofs.VariableLaws.{settingOf, of-value, of-reference, of-edge, of-helper, every-variable}
 use Rattle.clauses.proofs.Common.{Common}

@@ -17,7 +17,7 @@ use Rattle.diagram.specs.Numbers.{firstValue}
 use Rattle.diagram.proofs.AllowsLaws.{Ranked, end-agrees, root-later}
 use Rattle.clauses.specs.Variables.{valueVariable}
 use Rattle.clauses.specs.Clauses.{Edition, firstHelper}
-use Rattle.clauses.specs.ExactlyOne.{ExactlyOne}
+use Rattle.clauses.specs.Editions.{ExactlyOne}
 use Rattle.clauses.proofs.Common.{Common}
 use Rattle.clauses.proofs.OpenValues.{Takes, open-conflict}
 use Rattle.demands.specs.Demand3.{Chosen}

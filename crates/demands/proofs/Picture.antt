@@ -22,10 +22,9 @@ use Rattle.judge.specs.Build.{buildRules, Fits}
 use Rattle.judge.proofs.JudgeLaws.{passed-fits}
 use Rattle.clauses.specs.Variables.{valueVariable, referenceVariable, edgeVariable}
 use Rattle.clauses.specs.Clauses.{edition1, firstHelper, clauses}
-use Rattle.clauses.proofs.Pairs.{edition1-one}
+use Rattle.clauses.proofs.Edition1.{edition1-one, edition1-own}
 use Rattle.clauses.proofs.VariableLaws.{settingOf}
 use Rattle.clauses.proofs.Common.{Common, clauses-common, false-out, t1-step, t3-step, t4-step}
-use Rattle.clauses.proofs.LiteralLaws.{edition1-own}
 use Rattle.clauses.proofs.Decided.{arrives, taken, value-out}
 use Rattle.demands.specs.Demand3.{SettingFor, SameTo, Chosen, OneSetting, NoSetting}
 use Rattle.demands.specs.Samples.{s1, s2, s3}

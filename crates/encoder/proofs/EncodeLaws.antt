@@ -26,7 +26,7 @@ use Rattle.diagram.proofs.SoundLaws.{check-faithful, passed-sound, sound-passed
 use Rattle.clauses.specs.Clauses.{Edition, edition1, clauses, lastVariable}
 use Rattle.encoder.specs.Emit.{Tallied}
 use Rattle.encoder.specs.Promise.{needed, encodeTable, encodeRules, EncodePromise}
-use Rattle.clauses.proofs.SizeLaws.{allPairs, last-variable, clauses-by-pairs, words-by-pairs}
+use Rattle.clauses.proofs.Edition1Sizes.{allPairs, last-variable, clauses-by-pairs, words-by-pairs}
 
 -- the counts by sums are the list's own
 pub own-tally : (d : Lent) {c : Diagram} {p : ℕ} (t : Tally) → Tallied c p t → c ≡ countsOf d → p ≡ allPairs d → t ≡ tallyOf (clauses edition1 d) (lastVariable edition1 d)

@@ -31,6 +31,9 @@ below-or-not a b = go (decLt a b)
     go (yes l) = inl l
     go (no n) = inr (omega arith)
 
+pub below-or-above : (a b : ℕ) → (a ≡ b → ⊥) → (a < b) ⊎ (b < a)
+below-or-above a b n = ⊎-elim (λ (l : a < b). inl l) (λ (l : b ≤ a). inr (omega arith)) (below-or-not a b)
+
 -- ---- sums
 
 module _ (f : ℕ → ℕ) where

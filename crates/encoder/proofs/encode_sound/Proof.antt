@@ -11,7 +11,7 @@ use Rattle.diagram.proofs.NumberLaws.{values-most}
 use Rattle.diagram.proofs.ShapedLaws.{edges-most}
 use Rattle.diagram.specs.Lent.{Lent, lent, options, nodes}
 use Rattle.diagram.specs.declared.Diagram.{Diagram}
-use Rattle.clauses.proofs.SizeLaws.{all-pairs-most}
+use Rattle.clauses.proofs.Edition1Sizes.{all-pairs-most}
 use Rattle.encoder.proofs.EncodeLaws.{own-tally}
 use Rattle.clauses.specs.Clauses.{edition1, clauses, lastVariable}
 use Rattle.encoder.specs.Promise.{needed}

@@ -7,7 +7,7 @@ use lib.ListN.{length, getD}
 use borrow.Author.Needs.{needs}
 use Rattle.lists.proofs.UptoLaws.{sum-none, sum-more, sum-most}
 use Rattle.lists.specs.Upto.{sumTo}
-use Rattle.clauses.proofs.SizeLaws.{pairs-most}
+use Rattle.clauses.proofs.Edition1.{pairs-most}
 use Rattle.clauses.specs.Clauses.{pairCount}
 use Rattle.encoder.proofs.pair_count.Statement.{statement}
 use Rattle.encoder.proofs.pair_count.Tie as tie

@@ -1,7 +1,7 @@
 -- `encoder::pairs_of` meets its contract. Assumes nothing.
 use native.Mathlib.Omega.{arith}
 use borrow.Author.Needs.{needs}
-use Rattle.clauses.proofs.SizeLaws.{product-most}
+use Rattle.clauses.proofs.Edition1.{product-most}
 use Rattle.encoder.proofs.pairs_of.Statement.{statement}
 use Rattle.encoder.proofs.pairs_of.Tie as tie
 
