@@ -1,24 +1,14 @@
--- Demand 3 holds: of the list, in whatever edition is "exactly one" and speaks of its own variables, and so in edition 1;
--- of what `encode` has written; and of what `judge` answers. Assumes nothing.
+-- Demand 3 holds in whatever edition is "exactly one" and speaks of its own variables, and so in edition 1. Assumes nothing.
 use mathlib.Core.Path.{_≡_, refl, sym, _∙_, ap, subst}
 use mathlib.Core.List.{List}
 use Prim.Native.Nat.{ℕ, zero, suc, _+_, _<_}
 use native.Mathlib.Omega.{arith}
-use lib.IntN.{ℤ}
-use lib.ListN.{take}
 use Rattle.cnf.specs.Clause.{Setting, Satisfies}
-use Rattle.cnf.specs.Words.{clausesOf}
-use Rattle.cnf.specs.declared.Encoded.the-variants.{Written}
-use Rattle.cnf.specs.declared.EncodeAnswer.{EncodeAnswer}
-use Rattle.cnf.specs.declared.Tally.{Tally}
 use Rattle.diagram.specs.Lent.{Lent, options, nodes, domain, chosen, Allows, Build}
 use Rattle.diagram.specs.Sound.{Sound}
 use Rattle.diagram.specs.Numbers.{firstValue}
 use Rattle.diagram.proofs.AllowsLaws.{Later, at-false-end, at-true-end, at-node, Ranked, sound-ranked}
 use Rattle.judge.specs.Build.{Fits}
-use Rattle.judge.specs.Promise.{JudgePromise}
-use Rattle.judge.specs.declared.Judged.the-variants.{Allowed, NotAllowed}
-use Rattle.judge.specs.declared.JudgeAnswer.{JudgeAnswer}
 use Rattle.judge.proofs.JudgeLaws.{allowed-exactly, not-allowed-exactly}
 use Rattle.clauses.specs.Clauses.{Edition, edition1, firstHelper, lastVariable, optionClauses, clauses}
 use Rattle.clauses.specs.Editions.{ExactlyOne, OwnVariables}
@@ -28,10 +18,9 @@ use Rattle.clauses.proofs.Decided.{arrives, taken, clauses-t5, reference-decide
 use Rattle.clauses.proofs.Satisfied.{stands-satisfies}
 use Rattle.clauses.proofs.LiteralLaws.{literal-within, clauses-back}
 use Rattle.clauses.proofs.Edition1.{edition1-one, edition1-own}
-use Rattle.encoder.specs.Promise.{EncodePromise}
 use Rattle.encoder.proofs.EncodeLaws.{encode-written}
 use Rattle.demands.specs.Demand2.{ExactlyTheList}
-use Rattle.demands.specs.Demand3.{SettingFor, SameTo, Chosen, OneSetting, NoSetting, Demand3}
+use Rattle.demands.specs.Demand3.{SettingFor, SameTo, Chosen, Demand3, Means}
 use Rattle.demands.specs.HalfFinished.{HalfFinished}
 use Rattle.demands.proofs.Demand2.{exactly-the-list}
 use Rattle.demands.proofs.Meaning.{chosen-reached, buildSetting, Meant, forced-setting, demand3-of, half-finished-of}
@@ -68,53 +57,28 @@ module _ (e : Edition) (one : ExactlyOne e) (own : OwnVariables e) (d : Lent) (s
   unfolding meant
   setting-is x b a σ p = forced-setting e one d ok (clauses e d) (clauses-common e d) x b σ p (meant x b a)
 
-  pub demand3-in : Demand3 d (lastVariable e d) (clauses e d) (Build d) (λ x. x)
-  demand3-in = demand3-of e one d ok (clauses e d) (clauses-common e d) meant (literal-within e d own s)
+  in-functions : Demand3 d (lastVariable e d) (clauses e d) (Build d) (λ x. x)
+  in-functions = demand3-of e one d ok (clauses e d) (clauses-common e d) meant (literal-within e d own s)
 
-  pub half-finished-in : HalfFinished d (clauses e d)
-  half-finished-in = half-finished-of e one d ok (clauses e d) (clauses-common e d) meant (literal-within e d own s)
+  in-lists : Demand3 d (lastVariable e d) (clauses e d) (Fits d) chosen
+  in-lists = demand3-listed d ok in-functions
 
-  -- builds as lists of n values, the form in which the library takes them
-  pub demand3-lists-in : Demand3 d (lastVariable e d) (clauses e d) (Fits d) chosen
-  demand3-lists-in = demand3-listed d ok demand3-in
+  in-orders : HalfFinished d (clauses e d)
+  in-orders = half-finished-of e one d ok (clauses e d) (clauses-common e d) meant
 
--- ---- what the library has written and answered, in any edition
+pub means : (e : Edition) → ExactlyOne e → OwnVariables e → Means e
+means e one own =
+    record {
+      the-list = in-functions e one own;
+      with-lists = in-lists e one own;
+      half-finished = in-orders e one own;
+      written = λ d before answer after p t q.
+          let w = encode-written e d before answer after p t .0 q in
+          let l = exactly-the-list e d before answer after p (w .0 .0) (w .0 .1) in
+          rw (w .1) (rw (l .the-words, clauses-back e d own (w .0 .0)) (in-lists e one own d (w .0 .0)));
+      judged-allowed = λ d build answer p q. let w = allowed-exactly d build answer p .0 q in in-lists e one own d (w .0 .0) .allowed build (w .0 .1) (w .1);
+      judged-not-allowed = λ d build answer p q. let w = not-allowed-exactly d build answer p .0 q in in-lists e one own d (w .0 .0) .not-allowed build (w .0 .1) (w .1);
+    }
 
-module _ (e : Edition) (one : ExactlyOne e) (own : OwnVariables e) (d : Lent) where
-  -- the clauses that the buffer's words tell, with V as the answer gives it
-  pub demand3-written-in : (before : List ℤ) (answer : EncodeAnswer) (after : List ℤ) → EncodePromise e d before answer after → (t : Tally) → answer .outcome ≡ Written t → Demand3 d (t .variables) (clausesOf (take (t .words) after)) (Fits d) chosen
-  demand3-written-in before answer after p t q =
-      let w = encode-written e d before answer after p t .0 q in
-      let l = exactly-the-list e d before answer after p (w .0 .0) (w .0 .1) in
-      rw (w .1) (rw (l .the-words, clauses-back e d own (w .0 .0)) (demand3-lists-in e one own d (w .0 .0)))
-
-  module _ (build : List ℕ) (answer : JudgeAnswer) (promise : JudgePromise d build answer) where
-    -- where the judge says "allowed" the build has exactly one setting
-    pub allowed-setting-in : answer .outcome ≡ Allowed → OneSetting d (lastVariable e d) (clauses e d) (chosen build)
-    allowed-setting-in q = let w = allowed-exactly d build answer promise .0 q in demand3-lists-in e one own d (w .0 .0) .allowed build (w .0 .1) (w .1)
-
-    -- where it says "not allowed", none, and a conflict
-    pub not-allowed-setting-in : answer .outcome ≡ NotAllowed → NoSetting d (clauses e d) (chosen build)
-    not-allowed-setting-in q = let w = not-allowed-exactly d build answer promise .0 q in demand3-lists-in e one own d (w .0 .0) .not-allowed build (w .0 .1) (w .1)
-
--- ---- edition 1
-
-module _ (d : Lent) (s : Sound d) where
-  pub demand3 : Demand3 d (lastVariable edition1 d) (clauses edition1 d) (Build d) (λ x. x)
-  demand3 = demand3-in edition1 edition1-one edition1-own d s
-
-  pub demand3-lists : Demand3 d (lastVariable edition1 d) (clauses edition1 d) (Fits d) chosen
-  demand3-lists = demand3-lists-in edition1 edition1-one edition1-own d s
-
-  pub half-finished : HalfFinished d (clauses edition1 d)
-  half-finished = half-finished-in edition1 edition1-one edition1-own d s
-
-pub demand3-written : (d : Lent) (before : List ℤ) (answer : EncodeAnswer) (after : List ℤ) → EncodePromise edition1 d before answer after → (t : Tally) → answer .outcome ≡ Written t → Demand3 d (t .variables) (clausesOf (take (t .words) after)) (Fits d) chosen
-demand3-written = demand3-written-in edition1 edition1-one edition1-own
-
-module _ (d : Lent) (build : List ℕ) (answer : JudgeAnswer) (promise : JudgePromise d build answer) where
-  pub allowed-setting : answer .outcome ≡ Allowed → OneSetting d (lastVariable edition1 d) (clauses edition1 d) (chosen build)
-  allowed-setting = allowed-setting-in edition1 edition1-one edition1-own d build answer promise
-
-  pub not-allowed-setting : answer .outcome ≡ NotAllowed → NoSetting d (clauses edition1 d) (chosen build)
-  not-allowed-setting = not-allowed-setting-in edition1 edition1-one edition1-own d build answer promise
+pub edition1-means : Means edition1
+edition1-means = means edition1 edition1-one edition1-own

@@ -104,7 +104,7 @@ module _ (e : Edition) (one : ExactlyOne e) (d : Lent) (ok : Ranked d) (cs : Lis
 
   -- ---- the demand
 
-  module _ (meant : (x : ℕ → ℕ) → Build d x → Allows d x → Meant e one d cs x) (within : (c : Clause) → List·Memᴰ c cs → (l : ℤ) → List·Memᴰ l c → Within 1 (lastVariable e d) (natAbs l)) where
+  module _ (meant : (x : ℕ → ℕ) → Build d x → Allows d x → Meant e one d cs x) where
     one-setting : (x : ℕ → ℕ) → Build d x → Allows d x → OneSetting d (lastVariable e d) cs x
     one-setting x b a =
         let m = meant x b a in
@@ -114,8 +114,8 @@ module _ (e : Edition) (one : ExactlyOne e) (d : Lent) (ok : Ranked d) (cs : Lis
           no-other = λ σ τ p q n l k. forced-setting x b σ p m n l k ∙ sym (forced-setting x b τ q m n l k);
         }
 
-    pub demand3-of : Demand3 d (lastVariable e d) cs (Build d) (λ x. x)
-    demand3-of =
+    pub demand3-of : ((c : Clause) → List·Memᴰ c cs → (l : ℤ) → List·Memᴰ l c → Within 1 (lastVariable e d) (natAbs l)) → Demand3 d (lastVariable e d) cs (Build d) (λ x. x)
+    demand3-of within =
         record {
           allowed = λ x b a. one-setting x b (allows-exactly d ok x b .1 a);
           not-allowed = λ x b n. record {

@@ -30,7 +30,7 @@ use Rattle.demands.specs.Demand3.{SettingFor, SameTo, Chosen, OneSetting
 use Rattle.demands.specs.Samples.{s1, s2, s3}
 use Rattle.demands.specs.Picture.{s3Clauses, build01, build11, setting01, chain11, Picture}
 use Rattle.demands.proofs.Meaning.{chosen-reached, buildSetting}
-use Rattle.demands.proofs.Demand3.{demand3-lists, setting-is}
+use Rattle.demands.proofs.Demand3.{setting-is, edition1-means}
 
 pub samples-sound : Each Sound (s1 ∷ s2 ∷ s3 ∷ [])
 unfolding sumTo lastTo first chain firstEdge badLayer permits owner badTarget optionRules nodeRules targetRules checkRules
@@ -72,7 +72,7 @@ own-is = refl
 
 one01 : OneSetting s3 12 (clauses edition1 s3) build01
 unfolding sumTo firstEdge firstValue firstHelper
-one01 = demand3-lists s3 sound3 .allowed (0 ∷ 1 ∷ []) fits01 allows01
+one01 = edition1-means .with-lists s3 sound3 .allowed (0 ∷ 1 ∷ []) fits01 allows01
 
 setting-of : (σ : Setting) → SettingFor s3 (clauses edition1 s3) build01 σ → upTo 12 (λ k. σ (suc k) ∷ []) ≡ setting01
 unfolding sumTo firstEdge firstValue firstHelper
@@ -114,7 +114,7 @@ picture =
       the-clauses = the-clauses;
       has-setting = subst (λ (cs : List Clause). OneSetting s3 12 cs build01) the-clauses one01;
       the-setting = subst (λ (cs : List Clause). (σ : Setting) → SettingFor s3 cs build01 σ → upTo 12 (λ k. σ (suc k) ∷ []) ≡ setting01) the-clauses setting-of;
-      has-none = subst (λ (cs : List Clause). NoSetting s3 cs build11) the-clauses (demand3-lists s3 sound3 .not-allowed (1 ∷ 1 ∷ []) fits11 not-allows11);
+      has-none = subst (λ (cs : List Clause). NoSetting s3 cs build11) the-clauses (edition1-means .with-lists s3 sound3 .not-allowed (1 ∷ 1 ∷ []) fits11 not-allows11);
       the-chain = subst (λ (cs : List Clause). Each (Reached (Chosen s3 build11) cs) chain11) the-clauses reached-chain;
       the-conflict = List·Memᴰ·tail (List·Memᴰ·tail (List·Memᴰ·tail (List·Memᴰ·tail (List·Memᴰ·tail (List·Memᴰ·tail (List·Memᴰ·head refl))))));
     }

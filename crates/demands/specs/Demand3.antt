@@ -7,9 +7,22 @@ use mathlib.Core.Bool.{true}
 use mathlib.Core.List.{List}
 use Prim.Native.Nat.{ℕ, _≤_, _<_}
 use lib.IntN.{ℤ}
+use lib.ListN.{take}
 use Rattle.cnf.specs.Clause.{Clause, plain, Setting, Satisfies, Conflict}
-use Rattle.diagram.specs.Lent.{Lent, options, domain, AllowsFrom}
+use Rattle.cnf.specs.Words.{clausesOf}
+use Rattle.cnf.specs.declared.Encoded.the-variants.{Written}
+use Rattle.cnf.specs.declared.EncodeAnswer.{EncodeAnswer}
+use Rattle.cnf.specs.declared.Tally.{Tally}
+use Rattle.diagram.specs.Lent.{Lent, options, domain, chosen, Build, AllowsFrom}
+use Rattle.diagram.specs.Sound.{Sound}
+use Rattle.judge.specs.Build.{Fits}
+use Rattle.judge.specs.Promise.{JudgePromise}
+use Rattle.judge.specs.declared.Judged.the-variants.{Allowed, NotAllowed}
+use Rattle.judge.specs.declared.JudgeAnswer.{JudgeAnswer}
 use Rattle.clauses.specs.Variables.{valueVariable}
+use Rattle.clauses.specs.Clauses.{Edition, lastVariable, clauses}
+use Rattle.encoder.specs.Promise.{EncodePromise}
+use Rattle.demands.specs.HalfFinished.{HalfFinished}
 
 -- ---- the words of it, for a build that gives option i the value x i
 
@@ -61,3 +74,19 @@ pub record Demand3 (d : Lent) (last : ℕ) (cs : List Clause) {B : Type 0} (IsBu
   pub satisfied : (σ : Setting) → Satisfies σ cs → (x : B) × IsBuild x × Gives d σ (value x) × AllowsFrom d (value x) 2
   -- settings speak of the variables 1 to V: whether one satisfies the clauses is a matter of these alone
   pub no-more : (σ τ : Setting) → SameTo last σ τ → Satisfies σ cs → Satisfies τ cs
+
+-- ---- of an edition: the demand holds of the list of every sound diagram, of what `encode` has written, and of what `judge`
+-- answers
+
+pub record Means (e : Edition) : Type 0 where
+  -- the list, with a build as a function from options to values
+  pub the-list : (d : Lent) → Sound d → Demand3 d (lastVariable e d) (clauses e d) (Build d) (λ x. x)
+  -- and with a build as a list of n values, the form in which the library takes it
+  pub with-lists : (d : Lent) → Sound d → Demand3 d (lastVariable e d) (clauses e d) (Fits d) chosen
+  -- its propagation half for half-finished orders
+  pub half-finished : (d : Lent) → Sound d → HalfFinished d (clauses e d)
+  -- what was written: the clauses that the buffer's words tell, with V as the answer gives it
+  pub written : (d : Lent) (before : List ℤ) (answer : EncodeAnswer) (after : List ℤ) → EncodePromise e d before answer after → (t : Tally) → answer .outcome ≡ Written t → Demand3 d (t .variables) (clausesOf (take (t .words) after)) (Fits d) chosen
+  -- where `judge` answers "allowed" the build has exactly one setting, where it answers "not allowed" none, and a conflict
+  pub judged-allowed : (d : Lent) (build : List ℕ) (answer : JudgeAnswer) → JudgePromise d build answer → answer .outcome ≡ Allowed → OneSetting d (lastVariable e d) (clauses e d) (chosen build)
+  pub judged-not-allowed : (d : Lent) (build : List ℕ) (answer : JudgeAnswer) → JudgePromise d build answer → answer .outcome ≡ NotAllowed → NoSetting d (clauses e d) (chosen build)

@@ -1,6 +1,6 @@
 -- What this crate defines. Assumes nothing.
 pub mod Demand2
-pub mod Demand3
 pub mod HalfFinished
+pub mod Demand3
 pub mod Samples
 pub mod Picture
