@@ -1,6 +1,6 @@
 -- Where each value is open or ruled out, and no allowed build takes open values alone, unit propagation conflicts: by the
 -- option clauses, the units, T1, T3 and T4 alone. Assumes nothing.
-use mathlib.Core.Path.{_≡_, refl, sym, _∙_, ap}
+use mathlib.Core.Path.{_≡_, sym, _∙_, ap}
 use mathlib.Core.Logic.{_⊎_, inl, inr, ⊎-elim}
 use mathlib.Core.Bool.{true, false}
 use mathlib.Core.List.{List}
@@ -18,7 +18,7 @@ use Rattle.diagram.proofs.AllowsLaws.{Later, Ranked, asked-option, every-refere
 use Rattle.clauses.specs.Variables.{valueVariable, referenceVariable, edgeVariable}
 use Rattle.clauses.specs.Clauses.{Edition, firstHelper}
 use Rattle.clauses.specs.Editions.{ExactlyOne}
-use Rattle.clauses.proofs.Common.{Common, nodeVariable, targetVariable, false-out, root-conflict, t1-step, t3-step, t4-step}
+use Rattle.clauses.proofs.Common.{Common, false-out, root-conflict, t1-step, t3-step, t4-step}
 
 -- the build takes open values alone
 abbrev pub Takes : Lent → (ℕ → ℕ → Type 0) → (ℕ → ℕ) → Type 0

@@ -1,8 +1,6 @@
 -- An allowed build has a setting: each reference and each edge is what it stands for. Assumes nothing.
-use mathlib.Core.Path.{_≡_, refl, sym, _∙_, ap, subst}
-use mathlib.Core.Logic.{_⊎_, ⊎-elim}
+use mathlib.Core.Path.{_≡_, refl, _∙_, ap}
 use mathlib.Core.Bool.{Bool, true, false, not, _&&_}
-use mathlib.Core.List.{List, [], _∷_, _++_, List·Memᴰ}
 use Prim.Native.Nat.{ℕ, suc, _+_, _<_}
 use native.Mathlib.Omega.{arith}
 use lib.Dec.{eqb}
@@ -10,15 +8,13 @@ use borrow.Author.Tests.{eqb-true, eq-eqb}
 use Rattle.lists.specs.Upto.{upTo}
 use Rattle.lists.specs.Every.{Every, Each}
 use Rattle.lists.proofs.EveryLaws.{every-more, every-both, every-upTo, each-every}
-use Rattle.cnf.specs.Clause.{Clause, plain, negated, Setting, holds, Held, Satisfies}
+use Rattle.cnf.specs.Clause.{negated, Setting, holds, Held, Satisfies}
 use Rattle.cnf.proofs.Propagation.{held-first, held-second, held-later}
 use Rattle.diagram.specs.Lent.{Lent, options, nodes, domain, layer, asked, width, target, end, Allows, Build}
-use Rattle.diagram.specs.Numbers.{firstValue, values}
+use Rattle.diagram.specs.Numbers.{values}
 use Rattle.diagram.proofs.AllowsLaws.{Ranked, asked-option, later-most, walk-true, walk-false}
 use Rattle.clauses.specs.Variables.{valueVariable, referenceVariable, edgeVariable}
-use Rattle.clauses.specs.Clauses.{Edition, helperNumber, units, t1, t5, edgeClauses, nodeClauses, firstHelper, optionClauses, clauses}
-use Rattle.clauses.specs.Editions.{ExactlyOne}
-use Rattle.clauses.proofs.VariableLaws.{settingOf, of-value, of-reference, of-edge, of-helper}
+use Rattle.clauses.specs.Clauses.{Edition, units, t1, t5, edgeClauses, nodeClauses, optionClauses, clauses}
 use Rattle.clauses.proofs.OneOf.{one-of-held}
 use Rattle.clauses.proofs.Common.{nodeVariable, targetVariable, askedVariable}
 use Rattle.clauses.proofs.Decided.{arrives, taken, arrives-step}

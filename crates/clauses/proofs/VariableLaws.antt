@@ -1,14 +1,14 @@
 -- Every number from 1 to V is that of a value, a reference, an edge or a helper, and of one alone: so a setting can be made
 -- of what each of them is to be, and what holds of all of them holds of every number. Assumes nothing.
-use mathlib.Core.Path.{_≡_, refl, sym, _∙_, ap, subst}
-use mathlib.Core.Bool.{Bool, true, false, cond}
+use mathlib.Core.Path.{_≡_, sym, _∙_, ap, subst}
+use mathlib.Core.Bool.{Bool, false, cond}
 use mathlib.Core.Logic.{_⊎_, ⊎-elim}
 use Prim.Native.Nat.{ℕ, zero, suc, _+_, _-_, _≤_, _<_}
 use native.Mathlib.Omega.{arith}
 use lib.Dec.{ltb, leb}
 use borrow.Author.Tests.{lt-ltb, le-ltb}
 use Rattle.lists.specs.Upto.{sumTo, lastTo}
-use Rattle.lists.proofs.UptoLaws.{Sums, sums, sum-within, sum-split, last-term, below-or-not}
+use Rattle.lists.proofs.UptoLaws.{Sums, sums, sum-split, last-term, below-or-not}
 use Rattle.cnf.specs.Clause.{Setting}
 use Rattle.diagram.specs.Lent.{Lent, options, nodes, domain, width, firstEdge, edges}
 use Rattle.diagram.specs.Numbers.{firstValue, values}

@@ -15,7 +15,7 @@ use Rattle.diagram.specs.Sound.{Sound}
 use Rattle.cnf.specs.Clause.{words}
 use Rattle.cnf.specs.declared.EncodeAnswer.{EncodeAnswer}
 use Rattle.cnf.proofs.EncodedLaws.{written-list}
-use Rattle.clauses.specs.Clauses.{Edition, pairCount, edition1, clauses, lastVariable}
+use Rattle.clauses.specs.Clauses.{Edition, pairCount, clauses, lastVariable}
 use Rattle.clauses.specs.Editions.{OwnVariables}
 use Rattle.encoder.specs.Promise.{encodeRules, EncodePromise}
 use Rattle.clauses.proofs.Edition1.{pair-twice}

@@ -1,6 +1,4 @@
 -- Demand 3 holds in whatever edition is "exactly one" and speaks of its own variables, and so in edition 1. Assumes nothing.
-use mathlib.Core.Path.{_≡_, refl, sym, _∙_, ap, subst}
-use mathlib.Core.List.{List}
 use Prim.Native.Nat.{ℕ, zero, suc, _+_, _<_}
 use native.Mathlib.Omega.{arith}
 use Rattle.cnf.specs.Clause.{Setting, Satisfies}
@@ -19,7 +17,6 @@ use Rattle.clauses.proofs.Satisfied.{stands-satisfies}
 use Rattle.clauses.proofs.LiteralLaws.{literal-within, clauses-back}
 use Rattle.clauses.proofs.Edition1.{edition1-one, edition1-own}
 use Rattle.encoder.proofs.EncodeLaws.{encode-written}
-use Rattle.demands.specs.Demand2.{ExactlyTheList}
 use Rattle.demands.specs.Demand3.{SettingFor, SameTo, Chosen, Demand3, Means}
 use Rattle.demands.specs.HalfFinished.{HalfFinished}
 use Rattle.demands.proofs.Demand2.{exactly-the-list}

@@ -4,7 +4,7 @@ use mathlib.Core.Path.{_≡_, refl, sym, _∙_, ap, subst}
 use mathlib.Core.Logic.{_↔_}
 use mathlib.Core.Bool.{Bool, true, false, not, true≢false}
 use mathlib.Core.List.{List, List·Memᴰ}
-use Prim.Native.Nat.{ℕ, zero, suc, _+_, _≤_, _<_}
+use Prim.Native.Nat.{ℕ, zero, suc, _+_, _<_}
 use native.Mathlib.Decide.{ℕ-discrete}
 use lib.IntN.{ℤ, pos, negsuc, natAbs}
 use lib.Dec.{eqb}
@@ -12,18 +12,18 @@ use borrow.Author.Tests.{eqb-true, eq-eqb, ne-eqb}
 use Rattle.lists.proofs.ChoiceLaws.{choose}
 use Rattle.cnf.specs.Clause.{Clause, plain, says, Setting, holds, Satisfies, Reached, given}
 use Rattle.cnf.proofs.Propagation.{said, reached-holds, no-conflict}
-use Rattle.diagram.specs.Lent.{Lent, options, nodes, domain, width, end, Allows, Build, AllowsFrom}
+use Rattle.diagram.specs.Lent.{Lent, options, nodes, domain, width, end, Allows, Build}
 use Rattle.diagram.specs.Sound.{Within}
 use Rattle.diagram.specs.Numbers.{firstValue}
 use Rattle.diagram.proofs.AllowsLaws.{Ranked, allows-exactly}
 use Rattle.clauses.specs.Variables.{valueVariable, referenceVariable, edgeVariable}
-use Rattle.clauses.specs.Clauses.{Edition, helperNumber, firstHelper, lastVariable, optionClauses}
+use Rattle.clauses.specs.Clauses.{Edition, firstHelper, lastVariable, optionClauses}
 use Rattle.clauses.specs.Editions.{ExactlyOne}
 use Rattle.clauses.proofs.ExactlyOneLaws.{one-value}
 use Rattle.clauses.proofs.VariableLaws.{settingOf, of-value, of-reference, of-edge, of-helper, every-variable}
 use Rattle.clauses.proofs.Common.{Common}
 use Rattle.clauses.proofs.Decided.{value-out}
-use Rattle.demands.specs.Demand3.{Agrees, SettingFor, SameTo, Gives, Chosen, OneSetting, NoSetting, Demand3}
+use Rattle.demands.specs.Demand3.{SettingFor, SameTo, Gives, Chosen, OneSetting, Demand3}
 use Rattle.demands.specs.HalfFinished.{Order, Ordered, in-order, out-of-order, FitsOrder, HalfFinished}
 use Rattle.demands.proofs.Orders.{order-conflict, build-conflict}
 
