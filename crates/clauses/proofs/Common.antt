@@ -3,29 +3,18 @@
 use mathlib.Core.Path.{_≡_, refl, sym, subst}
 use mathlib.Core.Logic.{_⊎_, inl, ⊎-elim}
 use mathlib.Core.List.{List, [], _∷_, _++_, List·Memᴰ, List·Memᴰ·head, List·Memᴰ·tail, List·Memᴰ·cases-cons, List·Memᴰ·eq-of-singleton, Memᴰ·append-left, Memᴰ·append-right}
-use Prim.Native.Nat.{ℕ, suc, _<_}
+use Prim.Native.Nat.{ℕ, _<_}
 use lib.IntN.{ℤ, negℤ}
 use Rattle.lists.specs.Upto.{upTo}
 use Rattle.lists.proofs.UptoLaws.{in-list}
 use Rattle.cnf.specs.Clause.{Clause, plain, negated, Among, Reached, unit, Conflict}
 use Rattle.cnf.proofs.Propagation.{unit-each, first-reached, second-reached}
-use Rattle.diagram.specs.Lent.{Lent, options, nodes, asked, width, target}
-use Rattle.diagram.specs.Numbers.{values}
-use Rattle.clauses.specs.Variables.{valueVariable, referenceVariable, edgeVariable}
-use Rattle.clauses.specs.Clauses.{Edition, units, t1, t2, t3, t4, edgeClauses, nodeClauses, optionClauses, clauses}
+use Rattle.diagram.specs.Lent.{Lent, options, nodes, domain, width, Build}
+use Rattle.diagram.specs.Numbers.{firstValue, values}
+use Rattle.clauses.specs.Variables.{valueVariable, referenceVariable, nodeVariable, edgeVariable, targetVariable, askedVariable}
+use Rattle.clauses.specs.Clauses.{Edition, units, t1, t2, t3, t4, edgeClauses, nodeClauses, firstHelper, optionClauses, clauses}
+use Rattle.clauses.specs.Editions.{ExactlyOne}
 use Rattle.clauses.proofs.OneOf.{one-of-out}
-
-module _ (d : Lent) where
-  -- the variable of node v
-  abbrev pub nodeVariable : ℕ → ℕ
-  nodeVariable v = referenceVariable d (suc (suc v))
-
-  -- that of the target of the edge of value j of node v, and that of its value
-  abbrev pub targetVariable : ℕ → ℕ → ℕ
-  targetVariable v j = referenceVariable d (target d v j)
-
-  abbrev pub askedVariable : ℕ → ℕ → ℕ
-  askedVariable v j = valueVariable d (asked d v) j
 
 pub record Common (e : Edition) (d : Lent) (cs : List Clause) : Type 0 where
   pub has-option : (i : ℕ) → i < options d → Among (optionClauses e d i) cs
@@ -59,38 +48,39 @@ module _ (e : Edition) (d : Lent) where
 
 -- ---- propagation through them
 
-module _ (e : Edition) (d : Lent) (cs : List Clause) (has : Common e d cs) (Given : ℤ → Type 0) where
-  abbrev R : ℤ → Type 0
-  R = Reached Given cs
-
-  pub true-reached : R (plain (referenceVariable d 1))
+module _ {e : Edition} {d : Lent} {cs : List Clause} (has : Common e d cs) {Given : ℤ → Type 0} where
+  pub true-reached : Reached Given cs (plain (referenceVariable d 1))
   true-reached = unit-each (plain (referenceVariable d 1) ∷ []) (has .has-units _ (List·Memᴰ·head refl)) (List·Memᴰ·head refl) (inl refl, tt)
 
-  pub false-out : R (negated (referenceVariable d 0))
+  pub false-out : Reached Given cs (negated (referenceVariable d 0))
   false-out = unit-each (negated (referenceVariable d 0) ∷ []) (has .has-units _ (List·Memᴰ·tail (List·Memᴰ·head refl))) (List·Memᴰ·head refl) (inl refl, tt)
 
   -- with the root ruled out its own clause is a conflict
-  pub root-conflict : R (negated (referenceVariable d 2)) → Conflict Given cs
+  pub root-conflict : Reached Given cs (negated (referenceVariable d 2)) → Conflict Given cs
   root-conflict r =
       record {
         clause = plain (referenceVariable d 2) ∷ [];
         among = has .has-units _ (List·Memᴰ·tail (List·Memᴰ·tail (List·Memᴰ·head refl)));
-        against = λ m mm. subst (λ (l : ℤ). R (negℤ l)) (sym (List·Memᴰ·eq-of-singleton mm)) r;
+        against = λ m mm. subst (λ (l : ℤ). Reached Given cs (negℤ l)) (sym (List·Memᴰ·eq-of-singleton mm)) r;
       }
+
+  -- a build's values rule out the others
+  pub value-out : ExactlyOne e → (x : ℕ → ℕ) → Build d x → ((i : ℕ) → i < options d → Reached Given cs (plain (valueVariable d i (x i)))) → (i j : ℕ) → i < options d → j < domain d i → (j ≡ x i → ⊥) → Reached Given cs (negated (valueVariable d i j))
+  value-out one x b chosen i j h hj n = one .rules-out (firstValue d i) (firstHelper e d i) (domain d i) Given cs (has .has-option i h) j (x i) hj (b i h) n (chosen i h)
 
   module _ (v : ℕ) (hv : v < nodes d) where
     -- T1: a node with its edges ruled out is ruled out
-    pub t1-step : ((j : ℕ) → j < width d v → R (negated (edgeVariable d v j))) → R (negated (nodeVariable d v))
-    t1-step f = unit (t1 (nodeVariable d v) (λ j. edgeVariable d v j) (width d v)) (has .has-t1 v hv) (List·Memᴰ·head refl) (λ m mm ne. ⊎-elim (λ (q : m ≡ negated (nodeVariable d v)). absurd (ne q)) (one-of-out (λ j. edgeVariable d v j) (width d v) R f m) (List·Memᴰ·cases-cons mm))
+    pub t1-step : ((j : ℕ) → j < width d v → Reached Given cs (negated (edgeVariable d v j))) → Reached Given cs (negated (nodeVariable d v))
+    t1-step f = unit (t1 (nodeVariable d v) (λ j. edgeVariable d v j) (width d v)) (has .has-t1 v hv) (List·Memᴰ·head refl) (λ m mm ne. ⊎-elim (λ (q : m ≡ negated (nodeVariable d v)). absurd (ne q)) (one-of-out (λ j. edgeVariable d v j) (width d v) (Reached Given cs) f m) (List·Memᴰ·cases-cons mm))
 
     module _ (j : ℕ) (hj : j < width d v) where
       -- T2: an edge reaches its node
-      pub t2-step : R (plain (edgeVariable d v j)) → R (plain (nodeVariable d v))
+      pub t2-step : Reached Given cs (plain (edgeVariable d v j)) → Reached Given cs (plain (nodeVariable d v))
       t2-step = second-reached (has .has-t2 v j hv hj)
 
       -- T3 and T4: an edge with its target, or its value, ruled out is ruled out
-      pub t3-step : R (negated (targetVariable d v j)) → R (negated (edgeVariable d v j))
+      pub t3-step : Reached Given cs (negated (targetVariable d v j)) → Reached Given cs (negated (edgeVariable d v j))
       t3-step = first-reached (has .has-t3 v j hv hj)
 
-      pub t4-step : R (negated (askedVariable d v j)) → R (negated (edgeVariable d v j))
+      pub t4-step : Reached Given cs (negated (askedVariable d v j)) → Reached Given cs (negated (edgeVariable d v j))
       t4-step = first-reached (has .has-t4 v j hv hj)

@@ -4,20 +4,20 @@ use mathlib.Core.Path.{_≡_, refl, ap, subst}
 use mathlib.Core.Logic.{_⊎_, inl, inr, ⊎-elim}
 use mathlib.Core.Bool.{Bool, true, false, _&&_}
 use mathlib.Core.List.{List, List·Memᴰ, List·Memᴰ·head, List·Memᴰ·tail}
-use Prim.Native.Nat.{ℕ, suc, _<_}
+use Prim.Native.Nat.{ℕ, suc, _+_, _<_}
 use lib.IntN.{ℤ}
 use lib.Dec.{eqb}
 use borrow.Author.Tests.{eqb-true, eqb-false, eq-eqb}
 use Rattle.lists.proofs.UptoLaws.{decide}
-use Rattle.cnf.specs.Clause.{Clause, plain, negated, says, Reached}
+use Rattle.cnf.specs.Clause.{Clause, plain, says, Reached}
 use Rattle.cnf.proofs.Propagation.{unit-each}
-use Rattle.diagram.specs.Lent.{Lent, options, nodes, domain, layer, asked, width, target, end, Build}
-use Rattle.diagram.specs.Numbers.{firstValue}
-use Rattle.diagram.proofs.AllowsLaws.{Later, Ranked, asked-option, every-reference, walk-true, walk-false, end-step}
-use Rattle.clauses.specs.Variables.{valueVariable, referenceVariable, edgeVariable}
-use Rattle.clauses.specs.Clauses.{Edition, firstHelper, t5, clauses}
+use Rattle.diagram.specs.Lent.{Lent, options, nodes, layer, asked, width, target, end, Build}
+use Rattle.diagram.proofs.AllowsLaws.{Later, Ranked, asked-option, every-reference, every-later, walk-true, walk-false, end-step}
+use Rattle.clauses.specs.Variables.{referenceVariable, nodeVariable, edgeVariable, targetVariable, askedVariable}
+use Rattle.clauses.specs.Clauses.{Edition, t5, clauses}
 use Rattle.clauses.specs.Editions.{ExactlyOne}
-use Rattle.clauses.proofs.Common.{Common, nodeVariable, targetVariable, askedVariable, in-edge, true-reached, false-out, t1-step, t2-step, t3-step, t4-step}
+use Rattle.clauses.proofs.Common.{Common, in-edge, true-reached, false-out, value-out, t1-step, t2-step, t3-step, t4-step}
+use Rattle.clauses.proofs.Meant.{Chooses}
 
 -- ---- what a reference and an edge stand for
 
@@ -47,46 +47,43 @@ t5-step d cs has Given v j hv hj r s = unit-each (t5 (edgeVariable d v j) (targe
 
 -- ---- from the build's values
 
-module _ (e : Edition) (one : ExactlyOne e) (d : Lent) (cs : List Clause) (has : Common e d cs) (x : ℕ → ℕ) (b : Build d x) (Given : ℤ → Type 0)
-    (chosen : (i : ℕ) → i < options d → Reached Given cs (plain (valueVariable d i (x i)))) where
+module _ {e : Edition} (one : ExactlyOne e) {d : Lent} (ok : Ranked d) {cs : List Clause} (has : Common e d cs) (has5 : HasT5 d cs) (x : ℕ → ℕ) (b : Build d x) (Given : ℤ → Type 0) (chosen : Chooses d x Given cs) where
   abbrev R : ℤ → Type 0
   R = Reached Given cs
 
-  -- the other values are ruled out
-  pub value-out : (i j : ℕ) → i < options d → j < domain d i → (j ≡ x i → ⊥) → R (negated (valueVariable d i j))
-  value-out i j h hj n = one .rules-out (firstValue d i) (firstHelper e d i) (domain d i) Given cs (has .has-option i h) j (x i) hj (b i h) n (chosen i h)
+  edge-from : (v j : ℕ) → v < nodes d → j < width d v → R (says (arrives d x (target d v j)) (targetVariable d v j)) → R (says (taken d x v j) (edgeVariable d v j))
+  edge-from v j hv hj r = go (eqb j (x (asked d v))) refl (arrives d x (target d v j)) r
+    where
+      go : (q : Bool) → eqb j (x (asked d v)) ≡ q → (g : Bool) → R (says g (targetVariable d v j)) → R (says (q && g) (edgeVariable d v j))
+      go false p g r = t4-step has v hv j hj (value-out has one x b chosen (asked d v) j (asked-option d ok v hv) hj (eqb-false j (x (asked d v)) p))
+      go true p false r = t3-step has v hv j hj r
+      go true p true r = t5-step d cs has5 Given v j hv hj r (rw (eqb-true j (x (asked d v)) p) (chosen (asked d v) (asked-option d ok v hv)))
 
-  module _ (ok : Ranked d) (has5 : HasT5 d cs) where
-    edge-from : (v j : ℕ) → v < nodes d → j < width d v → R (says (arrives d x (target d v j)) (targetVariable d v j)) → R (says (taken d x v j) (edgeVariable d v j))
-    edge-from v j hv hj r = go (eqb j (x (asked d v))) refl (arrives d x (target d v j)) r
-      where
-        go : (q : Bool) → eqb j (x (asked d v)) ≡ q → (g : Bool) → R (says g (targetVariable d v j)) → R (says (q && g) (edgeVariable d v j))
-        go false p g r = t4-step e d cs has Given v hv j hj (value-out (asked d v) j (asked-option d ok v hv) hj (eqb-false j (x (asked d v)) p))
-        go true p false r = t3-step e d cs has Given v hv j hj r
-        go true p true r = t5-step d cs has5 Given v j hv hj r (rw (eqb-true j (x (asked d v)) p) (chosen (asked d v) (asked-option d ok v hv)))
+  node-from : (v : ℕ) → v < nodes d → ((j : ℕ) → j < width d v → R (says (taken d x v j) (edgeVariable d v j))) → (g : Bool) → arrives d x (target d v (x (asked d v))) ≡ g → R (says g (nodeVariable d v))
+  node-from v hv edge true p = t2-step has v hv (x (asked d v)) hx (subst (λ (g : Bool). R (says g (edgeVariable d v (x (asked d v))))) on (edge (x (asked d v)) hx))
+    where
+      hx : x (asked d v) < width d v
+      hx = b (asked d v) (asked-option d ok v hv)
 
-    node-from : (v : ℕ) → v < nodes d → ((j : ℕ) → j < width d v → R (says (taken d x v j) (edgeVariable d v j))) → (g : Bool) → arrives d x (target d v (x (asked d v))) ≡ g → R (says g (nodeVariable d v))
-    node-from v hv edge true p = t2-step e d cs has Given v hv (x (asked d v)) hx (subst (λ (g : Bool). R (says g (edgeVariable d v (x (asked d v))))) on (edge (x (asked d v)) hx))
-      where
-        hx : x (asked d v) < width d v
-        hx = b (asked d v) (asked-option d ok v hv)
+      on : taken d x v (x (asked d v)) ≡ true
+      on = rw (eq-eqb (x (asked d v)) (x (asked d v)) refl, p)
+  node-from v hv edge false p = t1-step has v hv (λ j hj. subst (λ (g : Bool). R (says g (edgeVariable d v j))) (off j) (edge j hj))
+    where
+      off : (j : ℕ) → taken d x v j ≡ false
+      off j = ⊎-elim
+          (λ (q : eqb j (x (asked d v)) ≡ true). rw (q, eqb-true j (x (asked d v)) q, p))
+          (λ (q : eqb j (x (asked d v)) ≡ false). rw q)
+          (decide (eqb j (x (asked d v))))
 
-        on : taken d x v (x (asked d v)) ≡ true
-        on = rw (eq-eqb (x (asked d v)) (x (asked d v)) refl, p)
-    node-from v hv edge false p = t1-step e d cs has Given v hv (λ j hj. subst (λ (g : Bool). R (says g (edgeVariable d v j))) (off j) (edge j hj))
-      where
-        off : (j : ℕ) → taken d x v j ≡ false
-        off j = ⊎-elim
-            (λ (q : eqb j (x (asked d v)) ≡ true). rw (q, eqb-true j (x (asked d v)) q, p))
-            (λ (q : eqb j (x (asked d v)) ≡ false). rw q)
-            (decide (eqb j (x (asked d v))))
+  later-decided : (i r : ℕ) → Later d i r → R (says (arrives d x r) (referenceVariable d r))
+  later-decided =
+      every-reference d ok (λ r. R (says (arrives d x r) (referenceVariable d r)))
+      (rw (walk-false d x (options d)) (false-out has))
+      (rw (walk-true d x (options d)) (true-reached has))
+      (λ v hv f. rw (arrives-step d x ok b v hv) (node-from v hv (λ j hj. edge-from v j hv hj (f j hj)) (arrives d x (target d v (x (asked d v)))) refl))
 
-    pub reference-decided : (i r : ℕ) → Later d i r → R (says (arrives d x r) (referenceVariable d r))
-    reference-decided =
-        every-reference d ok (λ r. R (says (arrives d x r) (referenceVariable d r)))
-        (rw (walk-false d x (options d)) (false-out e d cs has Given))
-        (rw (walk-true d x (options d)) (true-reached e d cs has Given))
-        (λ v hv f. rw (arrives-step d x ok b v hv) (node-from v hv (λ j hj. edge-from v j hv hj (f j hj)) (arrives d x (target d v (x (asked d v)))) refl))
+  pub reference-decided : (r : ℕ) → r < nodes d + 2 → R (says (arrives d x r) (referenceVariable d r))
+  reference-decided r h = later-decided 0 r (every-later d ok r h)
 
-    pub edge-decided : (v j : ℕ) → v < nodes d → j < width d v → R (says (taken d x v j) (edgeVariable d v j))
-    edge-decided v j hv hj = edge-from v j hv hj (reference-decided (layer d v) (target d v j) (ok .later v j hv hj))
+  pub edge-decided : (v j : ℕ) → v < nodes d → j < width d v → R (says (taken d x v j) (edgeVariable d v j))
+  edge-decided v j hv hj = edge-from v j hv hj (later-decided (layer d v) (target d v j) (ok .later v j hv hj))

@@ -3,6 +3,7 @@ pub mod VariableLaws
 pub mod OneOf
 pub mod ExactlyOneLaws
 pub mod Common
+pub mod Meant
 pub mod OpenValues
 pub mod Decided
 pub mod Satisfied

@@ -61,18 +61,18 @@ module _ (e : Edition) (one : ExactlyOne e) (d : Lent) (ok : Ranked d) (cs : Lis
   -- some build of open values is allowed from the reference, or the reference is ruled out
   way-or-out : (x : ℕ → ℕ) → Takes d Open x → (i r : ℕ) → Later d i r → Way d Open r ⊎ Out r
   way-or-out x takes = every-reference d ok (λ r. Way d Open r ⊎ Out r)
-      (inr (false-out e d cs has Given))
+      (inr (false-out has))
       (inl record { build = x; takes = takes; arrives = walk-true d x (options d) })
       node
     where
       edge : (v : ℕ) → v < nodes d → ((j : ℕ) → j < width d v → Way d Open (target d v j) ⊎ Out (target d v j)) → (j : ℕ) → j < width d v → Way d Open (suc (suc v)) ⊎ Reached Given cs (negated (edgeVariable d v j))
       edge v hv f j hj = ⊎-elim
-          (λ (o : Open (asked d v) j). ⊎-elim (λ (w : Way d Open (target d v j)). inl (way-step d ok Open v j hv hj o w)) (λ r. inr (t3-step e d cs has Given v hv j hj r)) (f j hj))
-          (λ r. inr (t4-step e d cs has Given v hv j hj r))
+          (λ (o : Open (asked d v) j). ⊎-elim (λ (w : Way d Open (target d v j)). inl (way-step d ok Open v j hv hj o w)) (λ r. inr (t3-step has v hv j hj r)) (f j hj))
+          (λ r. inr (t4-step has v hv j hj r))
           (open-or-out (asked d v) j (asked-option d ok v hv) hj)
 
       node : (v : ℕ) → v < nodes d → ((j : ℕ) → j < width d v → Way d Open (target d v j) ⊎ Out (target d v j)) → Way d Open (suc (suc v)) ⊎ Out (suc (suc v))
-      node v hv f = ⊎-elim (λ w. inl w) (λ g. inr (t1-step e d cs has Given v hv g)) (either (λ j. Reached Given cs (negated (edgeVariable d v j))) (width d v) (edge v hv f))
+      node v hv f = ⊎-elim (λ w. inl w) (λ g. inr (t1-step has v hv g)) (either (λ j. Reached Given cs (negated (edgeVariable d v j))) (width d v) (edge v hv f))
 
   abbrev OneOpen : ℕ → Type 0
   OneOpen i = (j : ℕ) × ((j < domain d i) × Open i j)
@@ -86,7 +86,7 @@ module _ (e : Edition) (one : ExactlyOne e) (d : Lent) (ok : Ranked d) (cs : Lis
   open-conflict none = ⊎-elim (λ k. k) walked (either OneOpen (options d) option)
     where
       from : (x : ℕ → ℕ) → Takes d Open x → Conflict Given cs
-      from x takes = ⊎-elim (λ (w : Way d Open 2). absurd (none (w .build) (w .takes) (w .arrives))) (λ r. root-conflict e d cs has Given r) (way-or-out x takes 0 2 (root-later d ok))
+      from x takes = ⊎-elim (λ (w : Way d Open 2). absurd (none (w .build) (w .takes) (w .arrives))) (λ r. root-conflict has r) (way-or-out x takes 0 2 (root-later d ok))
 
       walked : ((i : ℕ) → i < options d → OneOpen i) → Conflict Given cs
       walked f = let t = choose (λ i j. (j < domain d i) × Open i j) (options d) f in from (t .0) (t .1)

@@ -1,7 +1,8 @@
--- An allowed build has a setting: each reference and each edge is what it stands for. Assumes nothing.
+-- An allowed build has a setting: each reference and each edge is what it stands for. With that the list has all that is to
+-- be shown of an encoding. Assumes nothing.
 use mathlib.Core.Path.{_≡_, refl, _∙_, ap}
 use mathlib.Core.Bool.{Bool, true, false, not, _&&_}
-use Prim.Native.Nat.{ℕ, suc, _+_, _<_}
+use Prim.Native.Nat.{ℕ, suc, _<_}
 use native.Mathlib.Omega.{arith}
 use lib.Dec.{eqb}
 use borrow.Author.Tests.{eqb-true, eq-eqb}
@@ -10,22 +11,18 @@ use Rattle.lists.specs.Every.{Every, Each}
 use Rattle.lists.proofs.EveryLaws.{every-more, every-both, every-upTo, each-every}
 use Rattle.cnf.specs.Clause.{negated, Setting, holds, Held, Satisfies}
 use Rattle.cnf.proofs.Propagation.{held-first, held-second, held-later}
-use Rattle.diagram.specs.Lent.{Lent, options, nodes, domain, layer, asked, width, target, end, Allows, Build}
+use Rattle.diagram.specs.Lent.{Lent, options, nodes, layer, asked, width, target, end, Allows, Build}
 use Rattle.diagram.specs.Numbers.{values}
 use Rattle.diagram.proofs.AllowsLaws.{Ranked, asked-option, later-most, walk-true, walk-false}
-use Rattle.clauses.specs.Variables.{valueVariable, referenceVariable, edgeVariable}
+use Rattle.clauses.specs.Variables.{nodeVariable, edgeVariable, targetVariable, askedVariable}
 use Rattle.clauses.specs.Clauses.{Edition, units, t1, t5, edgeClauses, nodeClauses, optionClauses, clauses}
+use Rattle.clauses.specs.Editions.{ExactlyOne}
 use Rattle.clauses.proofs.OneOf.{one-of-held}
-use Rattle.clauses.proofs.Common.{nodeVariable, targetVariable, askedVariable}
-use Rattle.clauses.proofs.Decided.{arrives, taken, arrives-step}
+use Rattle.clauses.proofs.Common.{clauses-common}
+use Rattle.clauses.proofs.Meant.{Stands, Meant}
+use Rattle.clauses.proofs.Decided.{arrives, taken, arrives-step, clauses-t5, reference-decided, edge-decided}
 
--- a setting that says of each value, reference and edge what it stands for
-pub record Stands (d : Lent) (x : ℕ → ℕ) (σ : Setting) : Type 0 where
-  pub value-is : (i j : ℕ) → i < options d → j < domain d i → σ (valueVariable d i j) ≡ eqb j (x i)
-  pub reference-is : (r : ℕ) → r < nodes d + 2 → σ (referenceVariable d r) ≡ arrives d x r
-  pub edge-is : (v j : ℕ) → v < nodes d → j < width d v → σ (edgeVariable d v j) ≡ taken d x v j
-
-module _ (d : Lent) (ok : Ranked d) (x : ℕ → ℕ) (b : Build d x) (σ : Setting) (stands : Stands d x σ) where
+module _ (d : Lent) (ok : Ranked d) (x : ℕ → ℕ) (b : Build d x) (σ : Setting) (stands : Stands d x (arrives d x) (taken d x) σ) where
   units-held : Allows d x → Each (Held σ) (units (values d))
   units-held a = (
     held-first σ _ _ (stands .reference-is 1 (omega arith) ∙ ap (λ (r : ℕ). eqb r 1) (walk-true d x (options d))),
@@ -76,8 +73,18 @@ module _ (d : Lent) (ok : Ranked d) (x : ℕ → ℕ) (b : Build d x) (σ : Sett
     node-held = every-more (Held σ) (t1-held (arrives d x (target d v (x (asked d v)))) refl) (every-upTo (Held σ) (width d v) (edgeClauses d v) (λ j hj. each-every (Held σ) (edgeClauses d v j) (edge-held j hj)))
 
   -- with the options' clauses it satisfies the whole list, where the build is allowed
-  pub stands-satisfies : (e : Edition) → ((i : ℕ) → i < options d → Satisfies σ (optionClauses e d i)) → Allows d x → Satisfies σ (clauses e d)
+  stands-satisfies : (e : Edition) → ((i : ℕ) → i < options d → Satisfies σ (optionClauses e d i)) → Allows d x → Satisfies σ (clauses e d)
   unfolding clauses
   stands-satisfies e f a =
       every-both (Held σ) (upTo (options d) (optionClauses e d)) (every-upTo (Held σ) (options d) (optionClauses e d) f)
       (every-both (Held σ) (units (values d)) (each-every (Held σ) (units (values d)) (units-held a)) (every-upTo (Held σ) (nodes d) (nodeClauses d) node-held))
+
+-- the list means the diagram: a reference is true where the build's walk from it ends at T, an edge where it is that of the
+-- build's value and the walk goes on to T
+pub clauses-meant : {e : Edition} → ExactlyOne e → {d : Lent} → Ranked d → (x : ℕ → ℕ) → Build d x → Allows d x → Meant e d (clauses e d) x (arrives d x) (taken d x)
+clauses-meant {e} one {d} ok x b a =
+    record {
+      satisfied = λ σ stands f. stands-satisfies d ok x b σ stands e f a;
+      reference-decided = reference-decided one ok (clauses-common e d) (clauses-t5 e d) x b;
+      edge-decided = edge-decided one ok (clauses-common e d) (clauses-t5 e d) x b;
+    }

@@ -4,9 +4,9 @@ use mathlib.Core.List.{List, [], _∷_, _++_}
 use Prim.Native.Nat.{ℕ, suc, _+_, _-_, _*_, _/_}
 use Rattle.lists.specs.Upto.{sumTo, upTo}
 use Rattle.cnf.specs.Clause.{Clause, plain, negated}
-use Rattle.diagram.specs.Lent.{Lent, options, nodes, domain, asked, width, target}
+use Rattle.diagram.specs.Lent.{Lent, options, nodes, domain, width}
 use Rattle.diagram.specs.Numbers.{valueNumber, referenceNumber, firstValue, values}
-use Rattle.clauses.specs.Variables.{valueVariable, referenceVariable, edgeVariable, variables}
+use Rattle.clauses.specs.Variables.{nodeVariable, edgeVariable, targetVariable, askedVariable, variables}
 
 -- the clause "one of k variables", where f gives their numbers
 abbrev pub oneOf : (ℕ → ℕ) → ℕ → Clause
@@ -84,11 +84,11 @@ t1to5 v f g k = t1 v f k ∷ upTo k g
 
 -- of the edge of value j of node v
 abbrev pub edgeClauses : Lent → ℕ → ℕ → List Clause
-edgeClauses d v j = t2to5 (edgeVariable d v j) (referenceVariable d (suc (suc v))) (referenceVariable d (target d v j)) (valueVariable d (asked d v) j)
+edgeClauses d v j = t2to5 (edgeVariable d v j) (nodeVariable d v) (targetVariable d v j) (askedVariable d v j)
 
 -- of node v: T1, and then T2 to T5 of each of its edges in value order
 abbrev pub nodeClauses : Lent → ℕ → List Clause
-nodeClauses d v = t1to5 (referenceVariable d (suc (suc v))) (λ j. edgeVariable d v j) (λ j. edgeClauses d v j) (width d v)
+nodeClauses d v = t1to5 (nodeVariable d v) (λ j. edgeVariable d v j) (λ j. edgeClauses d v j) (width d v)
 
 module _ (e : Edition) (d : Lent) where
   -- how many variables stand before the helpers of option i: they come after the last edge, option by option

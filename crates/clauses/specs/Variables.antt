@@ -1,6 +1,6 @@
 -- The variables of a diagram as it is lent. Options, nodes, edges and values count from 0. Assumes nothing.
-use Prim.Native.Nat.{ℕ, _+_}
-use Rattle.diagram.specs.Lent.{Lent, nodes, firstEdge, edges}
+use Prim.Native.Nat.{ℕ, suc, _+_}
+use Rattle.diagram.specs.Lent.{Lent, nodes, asked, firstEdge, edges, target}
 use Rattle.diagram.specs.Numbers.{valueNumber, referenceNumber, edgeNumber, lastNumber, firstValue, values}
 
 module _ (d : Lent) where
@@ -12,9 +12,18 @@ module _ (d : Lent) where
   abbrev pub referenceVariable : ℕ → ℕ
   referenceVariable r = referenceNumber (values d) r
 
-  -- the edge of value j of node v
+  abbrev pub nodeVariable : ℕ → ℕ
+  nodeVariable v = referenceVariable (suc (suc v))
+
+  -- the edge of value j of node v, the reference that it leads to, and the value itself
   abbrev pub edgeVariable : ℕ → ℕ → ℕ
   edgeVariable v j = edgeNumber (values d) (nodes d) (firstEdge d v + j)
+
+  abbrev pub targetVariable : ℕ → ℕ → ℕ
+  targetVariable v j = referenceVariable (target d v j)
+
+  abbrev pub askedVariable : ℕ → ℕ → ℕ
+  askedVariable v j = valueVariable (asked d v) j
 
   -- the last number of values, references and edges
   abbrev pub variables : ℕ

@@ -4,25 +4,25 @@ use mathlib.Core.Path.{_≡_, refl, sym, _∙_, ap, subst}
 use mathlib.Core.Logic.{_↔_}
 use mathlib.Core.Bool.{Bool, true, false, not, true≢false}
 use mathlib.Core.List.{List, List·Memᴰ}
-use Prim.Native.Nat.{ℕ, zero, suc, _+_, _<_}
+use Prim.Native.Nat.{ℕ, zero, suc, _<_}
 use native.Mathlib.Decide.{ℕ-discrete}
 use lib.IntN.{ℤ, pos, negsuc, natAbs}
 use lib.Dec.{eqb}
 use borrow.Author.Tests.{eqb-true, eq-eqb, ne-eqb}
 use Rattle.lists.proofs.ChoiceLaws.{choose}
-use Rattle.cnf.specs.Clause.{Clause, plain, says, Setting, holds, Satisfies, Reached, given}
+use Rattle.cnf.specs.Clause.{Clause, says, Setting, holds, Satisfies, Reached, given}
 use Rattle.cnf.proofs.Propagation.{said, reached-holds, no-conflict}
-use Rattle.diagram.specs.Lent.{Lent, options, nodes, domain, width, end, Allows, Build}
+use Rattle.diagram.specs.Lent.{Lent, options, domain, end, Allows, Build}
 use Rattle.diagram.specs.Sound.{Within}
 use Rattle.diagram.specs.Numbers.{firstValue}
 use Rattle.diagram.proofs.AllowsLaws.{Ranked, allows-exactly}
-use Rattle.clauses.specs.Variables.{valueVariable, referenceVariable, edgeVariable}
+use Rattle.clauses.specs.Variables.{valueVariable}
 use Rattle.clauses.specs.Clauses.{Edition, firstHelper, lastVariable, optionClauses}
 use Rattle.clauses.specs.Editions.{ExactlyOne}
 use Rattle.clauses.proofs.ExactlyOneLaws.{one-value}
 use Rattle.clauses.proofs.VariableLaws.{settingOf, of-value, of-reference, of-edge, of-helper, every-variable}
-use Rattle.clauses.proofs.Common.{Common}
-use Rattle.clauses.proofs.Decided.{value-out}
+use Rattle.clauses.proofs.Common.{Common, value-out}
+use Rattle.clauses.proofs.Meant.{Stands, Chooses, Meant}
 use Rattle.demands.specs.Demand3.{SettingFor, SameTo, Gives, Chosen, OneSetting, Demand3}
 use Rattle.demands.specs.HalfFinished.{Order, Ordered, in-order, out-of-order, FitsOrder, HalfFinished}
 use Rattle.demands.proofs.Orders.{order-conflict, build-conflict}
@@ -31,21 +31,26 @@ use Rattle.demands.proofs.Orders.{order-conflict, build-conflict}
 exactly : {b : Bool} (i j : ℕ) → b ≡ eqb i j → (b ≡ true) ↔ (i ≡ j)
 exactly i j e = ((λ p. eqb-true i j (sym e ∙ p)), (λ q. e ∙ eq-eqb i j q))
 
--- the build's literals, reached
-pub chosen-reached : (d : Lent) (x : ℕ → ℕ) (cs : List Clause) (i : ℕ) → i < options d → Reached (Chosen d x) cs (plain (valueVariable d i (x i)))
+-- the build's literals are reached
+pub chosen-reached : (d : Lent) (x : ℕ → ℕ) (cs : List Clause) → Chooses d x (Chosen d x) cs
 chosen-reached d x cs i h = given record { option = i; there = h; names = refl }
 
--- the setting of a build, from what a reference and an edge are to be
-abbrev pub buildSetting : (e : Edition) → ExactlyOne e → Lent → (ℕ → Bool) → (ℕ → ℕ → Bool) → (ℕ → ℕ) → Setting
-buildSetting e one d reference edge x = settingOf e d (λ i j. eqb j (x i)) reference edge (λ i t. one .helper (domain d i) (x i) t)
+-- a build's own setting, from what its references and edges are to be
+module _ (e : Edition) (one : ExactlyOne e) (d : Lent) (reference : ℕ → Bool) (edge : ℕ → ℕ → Bool) (x : ℕ → ℕ) where
+  abbrev value : ℕ → ℕ → Bool
+  value i j = eqb j (x i)
 
--- what is to be shown of an encoding beyond the common part, for an allowed build
-pub record Meant (e : Edition) (one : ExactlyOne e) (d : Lent) (cs : List Clause) (x : ℕ → ℕ) : Type 0 where
-  pub reference : ℕ → Bool
-  pub edge : ℕ → ℕ → Bool
-  pub satisfied : Satisfies (buildSetting e one d reference edge x) cs
-  pub reference-decided : (r : ℕ) → r < nodes d + 2 → Reached (Chosen d x) cs (says (reference r) (referenceVariable d r))
-  pub edge-decided : (v j : ℕ) → v < nodes d → j < width d v → Reached (Chosen d x) cs (says (edge v j) (edgeVariable d v j))
+  abbrev helper : ℕ → ℕ → Bool
+  helper i t = one .helper (domain d i) (x i) t
+
+  abbrev pub ownSetting : Setting
+  ownSetting = settingOf e d value reference edge helper
+
+  own-stands : Stands d x reference edge ownSetting
+  own-stands = record { value-is = of-value e d value reference edge helper; reference-is = of-reference e d value reference edge helper; edge-is = of-edge e d value reference edge helper }
+
+  own-options : Build d x → (i : ℕ) → i < options d → Satisfies ownSetting (optionClauses e d i)
+  own-options b i h = one .satisfied (firstValue d i) (firstHelper e d i) (domain d i) (x i) (b i h) ownSetting (λ j l. own-stands .value-is i j h l) (λ t l. of-helper e d value reference edge helper i t h l)
 
 module _ (e : Edition) (one : ExactlyOne e) (d : Lent) (ok : Ranked d) (cs : List Clause) (has : Common e d cs) where
   option-satisfied : (σ : Setting) → Satisfies σ cs → (i : ℕ) → i < options d → Satisfies σ (optionClauses e d i)
@@ -73,46 +78,53 @@ module _ (e : Edition) (one : ExactlyOne e) (d : Lent) (ok : Ranked d) (cs : Lis
       where
         go : Dec (j ≡ x i) → σ (valueVariable d i j) ≡ eqb j (x i)
         go (yes q) = rw q (for-it .agrees i h ∙ sym (eq-eqb (x i) (x i) refl))
-        go (no n) = forced _ false (value-out e one d cs has x b (Chosen d x) (chosen-reached d x cs) i j h hj n) ∙ sym (ne-eqb j (x i) n)
-
-    -- it is the build's own setting, on every variable
-    pub forced-setting : (m : Meant e one d cs x) → SameTo (lastVariable e d) σ (buildSetting e one d (m .reference) (m .edge) x)
-    forced-setting m = every-variable e d (λ n. σ n ≡ buildSetting e one d (m .reference) (m .edge) x n)
-        (λ i j h l. forced-value i j h l ∙ sym (of-value e d _ _ _ _ i j h l))
-        (λ r h. forced _ _ (m .reference-decided r h) ∙ sym (of-reference e d _ _ _ _ r h))
-        (λ v j h l. forced _ _ (m .edge-decided v j h l) ∙ sym (of-edge e d _ _ _ _ v j h l))
-        (λ i t h l. one .helped (firstValue d i) (firstHelper e d i) (domain d i) (x i) (b i h) σ (option-satisfied σ (for-it .satisfies) i h) (for-it .agrees i h) t l ∙ sym (of-helper e d _ _ _ _ i t h l))
+        go (no n) = forced _ false (value-out has one x b (chosen-reached d x cs) i j h hj n) ∙ sym (ne-eqb j (x i) n)
 
   -- ---- a satisfying setting and its build
 
-  module _ (σ : Setting) (s : Satisfies σ cs) where
-    pub gives-build : (x : ℕ → ℕ) × Build d x × Gives d σ x × Allows d x
-    gives-build = from (choose OneTrue (options d) (λ i h. one-true i h))
+  gives-build : (σ : Setting) → Satisfies σ cs → (x : ℕ → ℕ) × Build d x × Gives d σ x × Allows d x
+  gives-build σ s = from (choose OneTrue (options d) one-true)
+    where
+      OneTrue : ℕ → ℕ → Type 0
+      OneTrue i j = (j < domain d i) × ((k : ℕ) → k < domain d i → σ (valueVariable d i k) ≡ eqb k j)
+
+      one-true : (i : ℕ) → i < options d → (j : ℕ) × OneTrue i j
+      one-true i h = let t = one-value e one (firstValue d i) (firstHelper e d i) (domain d i) σ (option-satisfied σ s i h) in (t .0, (t .1, t .2))
+
+      from : (x : ℕ → ℕ) × ((i : ℕ) → i < options d → OneTrue i (x i)) → (x : ℕ → ℕ) × Build d x × Gives d σ x × Allows d x
+      from t =
+          let x = t .0 in
+          let b : Build d x = λ i h. t .1 i h .0 in
+          let own : SettingFor d cs x σ = record { agrees = λ i h. t .1 i h .1 (x i) (b i h) ∙ eq-eqb (x i) (x i) refl; satisfies = s } in
+          (x, b, (λ i j h l. exactly j (x i) (t .1 i h .1 j l)), setting-allows x b σ own)
+
+  -- ---- the demand, where an allowed build's references and edges are these
+
+  module _ (reference : (ℕ → ℕ) → ℕ → Bool) (edge : (ℕ → ℕ) → ℕ → ℕ → Bool) (meant : (x : ℕ → ℕ) → Build d x → Allows d x → Meant e d cs x (reference x) (edge x)) where
+    abbrev own : (ℕ → ℕ) → Setting
+    own x = ownSetting e one d (reference x) (edge x) x
+
+    -- every setting for it is its own, on every variable
+    pub setting-own : (x : ℕ → ℕ) → Build d x → Allows d x → (σ : Setting) → SettingFor d cs x σ → SameTo (lastVariable e d) σ (own x)
+    setting-own x b a σ p = every-variable e d (λ n. σ n ≡ own x n)
+        (λ i j h l. forced-value x b σ p i j h l ∙ sym (stands .value-is i j h l))
+        (λ r h. forced x b σ p _ _ (meant x b a .reference-decided (Chosen d x) (chosen-reached d x cs) r h) ∙ sym (stands .reference-is r h))
+        (λ v j h l. forced x b σ p _ _ (meant x b a .edge-decided (Chosen d x) (chosen-reached d x cs) v j h l) ∙ sym (stands .edge-is v j h l))
+        (λ i t h l. one .helped (firstValue d i) (firstHelper e d i) (domain d i) (x i) (b i h) σ (option-satisfied σ (p .satisfies) i h) (p .agrees i h) t l ∙ sym (of-helper e d _ _ _ _ i t h l))
       where
-        OneTrue : ℕ → ℕ → Type 0
-        OneTrue i j = (j < domain d i) × ((k : ℕ) → k < domain d i → σ (valueVariable d i k) ≡ eqb k j)
+        stands : Stands d x (reference x) (edge x) (own x)
+        stands = own-stands e one d (reference x) (edge x) x
 
-        one-true : (i : ℕ) → i < options d → (j : ℕ) × OneTrue i j
-        one-true i h = let t = one-value e one (firstValue d i) (firstHelper e d i) (domain d i) σ (option-satisfied σ s i h) in (t .0, (t .1, t .2))
-
-        from : (x : ℕ → ℕ) × ((i : ℕ) → i < options d → OneTrue i (x i)) → (x : ℕ → ℕ) × Build d x × Gives d σ x × Allows d x
-        from t =
-            let x = t .0 in
-            let b : Build d x = λ i h. t .1 i h .0 in
-            let own : SettingFor d cs x σ = record { agrees = λ i h. t .1 i h .1 (x i) (b i h) ∙ eq-eqb (x i) (x i) refl; satisfies = s } in
-            (x, b, (λ i j h l. exactly j (x i) (t .1 i h .1 j l)), setting-allows x b σ own)
-
-  -- ---- the demand
-
-  module _ (meant : (x : ℕ → ℕ) → Build d x → Allows d x → Meant e one d cs x) where
     one-setting : (x : ℕ → ℕ) → Build d x → Allows d x → OneSetting d (lastVariable e d) cs x
     one-setting x b a =
-        let m = meant x b a in
         record {
-          setting = buildSetting e one d (m .reference) (m .edge) x;
-          for-it = record { agrees = λ i h. of-value e d _ _ _ _ i (x i) h (b i h) ∙ eq-eqb (x i) (x i) refl; satisfies = m .satisfied };
-          no-other = λ σ τ p q n l k. forced-setting x b σ p m n l k ∙ sym (forced-setting x b τ q m n l k);
+          setting = own x;
+          for-it = record { agrees = λ i h. stands .value-is i (x i) h (b i h) ∙ eq-eqb (x i) (x i) refl; satisfies = meant x b a .satisfied (own x) stands (own-options e one d (reference x) (edge x) x b) };
+          no-other = λ σ τ p q n l k. setting-own x b a σ p n l k ∙ sym (setting-own x b a τ q n l k);
         }
+      where
+        stands : Stands d x (reference x) (edge x) (own x)
+        stands = own-stands e one d (reference x) (edge x) x
 
     pub demand3-of : ((c : Clause) → List·Memᴰ c cs → (l : ℤ) → List·Memᴰ l c → Within 1 (lastVariable e d) (natAbs l)) → Demand3 d (lastVariable e d) cs (Build d) (λ x. x)
     demand3-of within =

@@ -17,20 +17,21 @@ use Rattle.diagram.specs.Numbers.{firstValue}
 use Rattle.diagram.specs.Sound.{Sound}
 use Rattle.diagram.specs.Rules.{badLayer, permits, owner, badTarget, optionRules, nodeRules, targetRules, checkRules}
 use Rattle.diagram.proofs.SoundLaws.{passed-sound}
-use Rattle.diagram.proofs.AllowsLaws.{sound-ranked, allows-exactly}
+use Rattle.diagram.proofs.AllowsLaws.{Ranked, sound-ranked, allows-exactly}
 use Rattle.judge.specs.Build.{buildRules, Fits}
 use Rattle.judge.proofs.JudgeLaws.{passed-fits}
 use Rattle.clauses.specs.Variables.{valueVariable, referenceVariable, edgeVariable}
 use Rattle.clauses.specs.Clauses.{edition1, firstHelper, clauses}
-use Rattle.clauses.proofs.Edition1.{edition1-one, edition1-own}
+use Rattle.clauses.proofs.Edition1.{edition1-one}
 use Rattle.clauses.proofs.VariableLaws.{settingOf}
-use Rattle.clauses.proofs.Common.{Common, clauses-common, false-out, t1-step, t3-step, t4-step}
-use Rattle.clauses.proofs.Decided.{arrives, taken, value-out}
+use Rattle.clauses.proofs.Common.{Common, clauses-common, false-out, value-out, t1-step, t3-step, t4-step}
+use Rattle.clauses.proofs.Decided.{arrives, taken}
+use Rattle.clauses.proofs.Satisfied.{clauses-meant}
 use Rattle.demands.specs.Demand3.{SettingFor, SameTo, Chosen, OneSetting, NoSetting}
 use Rattle.demands.specs.Samples.{s1, s2, s3}
 use Rattle.demands.specs.Picture.{s3Clauses, build01, build11, setting01, chain11, Picture}
-use Rattle.demands.proofs.Meaning.{chosen-reached, buildSetting}
-use Rattle.demands.proofs.Demand3.{setting-is, edition1-means}
+use Rattle.demands.proofs.Meaning.{chosen-reached, ownSetting, setting-own}
+use Rattle.demands.proofs.Demand3.{edition1-means}
 
 pub samples-sound : Each Sound (s1 ∷ s2 ∷ s3 ∷ [])
 unfolding sumTo lastTo first chain firstEdge badLayer permits owner badTarget optionRules nodeRules targetRules checkRules
@@ -45,6 +46,12 @@ the-clauses = refl
 abbrev sound3 : Sound s3
 sound3 = samples-sound .1 .1 .0
 
+abbrev ok3 : Ranked s3
+ok3 = sound-ranked s3 sound3
+
+abbrev has : Common edition1 s3 (clauses edition1 s3)
+has = clauses-common edition1 s3
+
 fits01 : Fits s3 (0 ∷ 1 ∷ [])
 unfolding first chain buildRules
 fits01 = passed-fits s3 (0 ∷ 1 ∷ []) refl
@@ -55,16 +62,16 @@ fits11 = passed-fits s3 (1 ∷ 1 ∷ []) refl
 
 allows01 : AllowsFrom s3 build01 2
 unfolding sumTo firstEdge step walk
-allows01 = allows-exactly s3 (sound-ranked s3 sound3) build01 (fits01 .in-domain) .0 refl
+allows01 = allows-exactly s3 ok3 build01 (fits01 .in-domain) .0 refl
 
 not-allows11 : AllowsFrom s3 build11 2 → ⊥
 unfolding sumTo firstEdge step walk
-not-allows11 a = absurd (let q : _≡_ {A = ℕ} 0 1 = allows-exactly s3 (sound-ranked s3 sound3) build11 (fits11 .in-domain) .1 a in omega arith)
+not-allows11 a = absurd (let q : _≡_ {A = ℕ} 0 1 = allows-exactly s3 ok3 build11 (fits11 .in-domain) .1 a in omega arith)
 
 -- ---- the picture
 
 abbrev own : Setting
-own = buildSetting edition1 edition1-one s3 (arrives s3 build01) (taken s3 build01) build01
+own = ownSetting edition1 edition1-one s3 (arrives s3 build01) (taken s3 build01) build01
 
 own-is : upTo 12 (λ k. own (suc k) ∷ []) ≡ setting01
 unfolding sumTo upTo lastTo firstEdge firstValue step walk settingOf
@@ -79,33 +86,30 @@ unfolding sumTo firstEdge firstValue firstHelper
 setting-of σ p = list-same (λ k. σ (suc k) ∷ []) (λ k. own (suc k) ∷ []) 12 (λ k h. ap (λ (b : Bool). b ∷ []) (same (suc k) (omega arith) (omega arith))) ∙ own-is
   where
     same : SameTo 12 σ own
-    same = setting-is edition1 edition1-one edition1-own s3 sound3 build01 (fits01 .in-domain) (allows-exactly s3 (sound-ranked s3 sound3) build01 (fits01 .in-domain) .1 allows01) σ p
+    same = setting-own edition1 edition1-one s3 ok3 (clauses edition1 s3) has (arrives s3) (taken s3) (clauses-meant edition1-one ok3) build01 (fits01 .in-domain) (allows-exactly s3 ok3 build01 (fits01 .in-domain) .1 allows01) σ p
 
 -- ---- the chain
 
 abbrev R : ℤ → Type 0
 R = Reached (Chosen s3 build11) (clauses edition1 s3)
 
-abbrev has : Common edition1 s3 (clauses edition1 s3)
-has = clauses-common edition1 s3
-
 other-value : R (negated (valueVariable s3 0 0))
-other-value = value-out edition1 edition1-one s3 (clauses edition1 s3) has build11 (fits11 .in-domain) (Chosen s3 build11) (chosen-reached s3 build11 (clauses edition1 s3)) 0 0 (omega arith) (omega arith) (λ q. omega arith)
+other-value = value-out has edition1-one build11 (fits11 .in-domain) (chosen-reached s3 build11 (clauses edition1 s3)) 0 0 (omega arith) (omega arith) (λ q. omega arith)
 
 root-edge : (j : ℕ) → j < 2 → R (negated (edgeVariable s3 0 j))
 unfolding sumTo firstEdge
-root-edge zero h = t4-step edition1 s3 (clauses edition1 s3) has (Chosen s3 build11) 0 (omega arith) 0 h other-value
-root-edge (suc zero) h = t3-step edition1 s3 (clauses edition1 s3) has (Chosen s3 build11) 0 (omega arith) 1 h (false-out edition1 s3 (clauses edition1 s3) has (Chosen s3 build11))
+root-edge zero h = t4-step has 0 (omega arith) 0 h other-value
+root-edge (suc zero) h = t3-step has 0 (omega arith) 1 h (false-out has)
 root-edge (suc (suc j)) h = absurd (omega arith)
 
 root-out : R (negated (referenceVariable s3 2))
-root-out = t1-step edition1 s3 (clauses edition1 s3) has (Chosen s3 build11) 0 (omega arith) root-edge
+root-out = t1-step has 0 (omega arith) root-edge
 
 reached-chain : Each R chain11
 unfolding sumTo firstEdge firstValue
 reached-chain =
     let by-build = chosen-reached s3 build11 (clauses edition1 s3) in
-    (by-build 0 (omega arith), (by-build 1 (omega arith), (other-value, (root-edge 0 (omega arith), (false-out edition1 s3 (clauses edition1 s3) has (Chosen s3 build11), (root-edge 1 (omega arith), (root-out, tt)))))))
+    (by-build 0 (omega arith), (by-build 1 (omega arith), (other-value, (root-edge 0 (omega arith), (false-out has, (root-edge 1 (omega arith), (root-out, tt)))))))
 
 pub picture : Picture
 picture =

@@ -84,6 +84,12 @@ module _ (d : Lent) where
       pub every-reference : (i r : ℕ) → Later i r → P r
       every-reference i r l = from-below (options d) i r (omega arith) l
 
+    -- every reference that there is, and the root
+    pub every-later : (r : ℕ) → r < nodes d + 2 → Later 0 r
+    every-later zero h = at-false-end
+    every-later (suc zero) h = at-true-end
+    every-later (suc (suc w)) h = at-node {w = w} (omega arith) (ok .layers-fit w (omega arith) .0)
+
     pub root-later : Later 0 2
     root-later = at-node (ok .some-nodes) (ok .layers-fit 0 (ok .some-nodes) .0)
 
