@@ -14,6 +14,7 @@ use Rattle.diagram.specs.Numbers.{firstValue, values}
 use Rattle.clauses.specs.Variables.{valueVariable, referenceVariable, nodeVariable, edgeVariable, targetVariable, askedVariable}
 use Rattle.clauses.specs.Clauses.{Edition, units, t1, t2, t3, t4, edgeClauses, nodeClauses, firstHelper, optionClauses, clauses}
 use Rattle.clauses.specs.Editions.{ExactlyOne}
+use Rattle.clauses.proofs.ExactlyOneLaws.{rules-out-in}
 use Rattle.clauses.proofs.OneOf.{one-of-out}
 
 pub record Common (e : Edition) (d : Lent) (cs : List Clause) : Type 0 where
@@ -66,7 +67,7 @@ module _ {e : Edition} {d : Lent} {cs : List Clause} (has : Common e d cs) {Give
 
   -- a build's values rule out the others
   pub value-out : ExactlyOne e → (x : ℕ → ℕ) → Build d x → ((i : ℕ) → i < options d → Reached Given cs (plain (valueVariable d i (x i)))) → (i j : ℕ) → i < options d → j < domain d i → (j ≡ x i → ⊥) → Reached Given cs (negated (valueVariable d i j))
-  value-out one x b chosen i j h hj n = one .rules-out (firstValue d i) (firstHelper e d i) (domain d i) Given cs (has .has-option i h) j (x i) hj (b i h) n (chosen i h)
+  value-out one x b chosen i j h hj n = rules-out-in one (firstValue d i) (firstHelper e d i) (domain d i) (has .has-option i h) j (x i) hj (b i h) n (chosen i h)
 
   module _ (v : ℕ) (hv : v < nodes d) where
     -- T1: a node with its edges ruled out is ruled out

@@ -7,20 +7,20 @@ use Prim.Native.Nat.{ℕ, zero, suc, _+_, _-_, _*_, _≤_, _<_}
 use native.Mathlib.Nat.{not-suc-le-zero, mul-le-mul}
 use native.Mathlib.Decide.{ℕ-discrete}
 use native.Mathlib.Omega.{arith}
-use lib.IntN.{ℤ, natAbs}
+use lib.IntN.{natAbs}
 use lib.ListN.{length}
 use lib.Dec.{eqb}
 use borrow.Author.Tests.{ne-eqb}
 use Rattle.lists.specs.Upto.{sumTo}
-use Rattle.lists.specs.Every.{Every}
 use Rattle.lists.proofs.UptoLaws.{below-or-above, sum-same, sum-const, sum-linear, list-length, list-singles, in-list, of-list}
 use Rattle.lists.proofs.EveryLaws.{every-more, every-upTo, each-every}
-use Rattle.cnf.specs.Clause.{Clause, plain, negated, words, Setting, Held, Satisfies, Among, Reached}
+use Rattle.cnf.specs.Clause.{Clause, plain, negated, words, Setting, Held, Satisfies, Among, Reached, given, Conflict}
 use Rattle.cnf.proofs.Propagation.{held-first, held-second, first-reached, second-reached}
 use Rattle.cnf.proofs.WordsLaws.{length-more, length-upTo, length-each}
 use Rattle.diagram.specs.Numbers.{valueNumber}
 use Rattle.clauses.specs.Clauses.{allValues, pair, pairsAfter, pairs, pairCount, pairwise, edition1}
-use Rattle.clauses.specs.Editions.{ExactlyOne, Literals, OwnVariables, OptionCounts}
+use Rattle.clauses.specs.Editions.{OneIn, AllOut, ExactlyOne, Literals, Own, own-value, OwnVariables, OptionCounts}
+use Rattle.clauses.proofs.ExactlyOneLaws.{one-value}
 use Rattle.clauses.proofs.OneOf.{one-of-literals, values-held, values-conflict}
 
 -- ---- exactly one
@@ -38,9 +38,9 @@ module _ (b k : ℕ) where
       let s = of-list (λ r. pair b (t .0) (t .0 + 1 + r) ∷ []) (k - 1 - t .0) (t .2) in
       (t .0, t .0 + 1 + s .0, omega arith, omega (arith, s .1), List·Memᴰ·eq-of-singleton (s .2))
 
-  pair-out : (Given : ℤ → Type 0) (cs : List Clause) → Among (pairs b k) cs → (i j : ℕ) → i < k → j < k → Reached Given cs (plain (valueNumber b j)) → (i < j) ⊎ (j < i) → Reached Given cs (negated (valueNumber b i))
-  pair-out Given cs sub i j hi hj r (inl l) = first-reached (sub _ (in-pairs i j l hj)) r
-  pair-out Given cs sub i j hi hj r (inr l) = second-reached (sub _ (in-pairs j i l hi)) r
+  pair-out : (cs : List Clause) → Among (pairs b k) cs → (i j : ℕ) → i < k → j < k → (i < j) ⊎ (j < i) → Reached (OneIn b j) cs (negated (valueNumber b i))
+  pair-out cs sub i j hi hj (inl l) = first-reached (sub _ (in-pairs i j l hj)) (given refl)
+  pair-out cs sub i j hi hj (inr l) = second-reached (sub _ (in-pairs j i l hi)) (given refl)
 
   -- one true value satisfies every pair
   module _ (j : ℕ) (σ : Setting) (f : (i : ℕ) → i < k → σ (valueNumber b i) ≡ eqb i j) where
@@ -51,27 +51,35 @@ module _ (b k : ℕ) where
     pairs-held : Satisfies σ (pairs b k)
     pairs-held c m = let t = of-pairs c m in subst (Held σ) (sym (t .4)) (pair-held (t .0) (t .1) (t .2) (t .3) (ℕ-discrete (t .0) j))
 
+all-out : (b k : ℕ) → Conflict (AllOut b k) (pairwise b k)
+all-out b k = values-conflict b k (pairwise b k) (List·Memᴰ·head refl)
+
+one-in : (b k i j : ℕ) → i < k → j < k → (i ≡ j → ⊥) → Reached (OneIn b j) (pairwise b k) (negated (valueNumber b i))
+one-in b k i j hi hj n = pair-out b k (pairwise b k) (λ c m. List·Memᴰ·tail m) i j hi hj (below-or-above i j n)
+
 pub edition1-one : ExactlyOne edition1
 edition1-one =
     record {
       helper = λ k j t. false;
-      conflicts = λ b h k Given cs sub f. values-conflict b k Given cs (sub (allValues b k) (List·Memᴰ·head refl)) f;
-      rules-out = λ b h k Given cs sub i j hi hj n r. pair-out b k Given cs (λ c m. sub c (List·Memᴰ·tail m)) i j hi hj r (below-or-above i j n);
-      satisfied = λ b h k j hj σ f g. every-more (Held σ) (values-held b k j hj σ f) (pairs-held b k j σ f);
-      helped = λ b h k j hj σ s p t ht. absurd (not-suc-le-zero ht);
+      conflicts = λ b h k. all-out b k;
+      rules-out = λ b h k. one-in b k;
+      satisfied-exactly = λ b h k σ. (
+        (λ s. let t = one-value b k (pairwise b k) (all-out b k) (one-in b k) σ s in (t .0, record { below = t .1; value-is = t .2; helper-is = λ t ht. absurd (not-suc-le-zero ht) })),
+        (λ t. every-more (Held σ) (values-held b k (t .0) (t .1 .below) σ (t .1 .value-is)) (pairs-held b k (t .0) σ (t .1 .value-is))),
+      );
     }
 
 -- ---- their own variables
 
-pairwise-literals : (P : ℕ → Type 0) (b k : ℕ) → ((j : ℕ) → j < k → P (valueNumber b j)) → Every (Literals P) (pairwise b k)
-pairwise-literals P b k g =
-    every-more (Literals P) (one-of-literals (λ j. valueNumber b j) k P g)
-    (every-upTo (Literals P) k (λ i. pairsAfter b i (k - 1 - i))
-    (λ i h. every-upTo (Literals P) (k - 1 - i) (λ t. pair b i (i + 1 + t) ∷ [])
-    (λ t l. each-every (Literals P) (pair b i (i + 1 + t) ∷ []) (each-every (λ l. P (natAbs l)) (pair b i (i + 1 + t)) (g i h, (g (i + 1 + t) (omega arith), tt)), tt))))
-
 pub edition1-own : OwnVariables edition1
-edition1-own = record { own = λ P b h k values helpers. pairwise-literals P b k values }
+edition1-own b h k =
+    every-more (Literals Mine) (one-of-literals (λ j. valueNumber b j) k Mine (λ j l. own-value j l))
+    (every-upTo (Literals Mine) k (λ i. pairsAfter b i (k - 1 - i))
+    (λ i l. every-upTo (Literals Mine) (k - 1 - i) (λ t. pair b i (i + 1 + t) ∷ [])
+    (λ t m. each-every (Literals Mine) (pair b i (i + 1 + t) ∷ []) (each-every (λ l. Mine (natAbs l)) (pair b i (i + 1 + t)) (own-value i l, (own-value (i + 1 + t) (omega arith), tt)), tt))))
+  where
+    Mine : ℕ → Type 0
+    Mine = Own edition1 b h k
 
 -- ---- how many they are
 

@@ -12,7 +12,7 @@ use Rattle.diagram.specs.Numbers.{firstValue, values}
 use Rattle.diagram.specs.Sound.{Shaped}
 use Rattle.diagram.proofs.ShapedLaws.{edges-most}
 use Rattle.diagram.proofs.NumberLaws.{values-most}
-use Rattle.clauses.specs.Variables.{variables}
+use Rattle.clauses.specs.Variables.{lastEdgeVariable}
 use Rattle.clauses.specs.Clauses.{pairCount, edition1, firstHelper, lastVariable, clauses}
 use Rattle.clauses.proofs.SizeLaws.{clauses-in, words-in}
 use Rattle.clauses.proofs.Edition1.{pairs-most, edition1-counts}
@@ -39,7 +39,7 @@ module _ (d : Lent) where
   word-count = words-in edition1 edition1-counts d
 
   -- it has no helpers
-  pub last-variable : lastVariable edition1 d ≡ variables d
+  pub last-variable : lastVariable edition1 d ≡ lastEdgeVariable d
   unfolding firstHelper
   last-variable = omega (arith, sum-const 0 (options d))
 

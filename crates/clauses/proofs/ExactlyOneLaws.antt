@@ -1,7 +1,9 @@
--- A setting that satisfies an option's clauses makes exactly one of its values true, in whatever edition. Assumes nothing.
-use mathlib.Core.Path.{_≡_, sym, _∙_, ap}
-use mathlib.Core.Logic.{_⊎_, ⊎-elim}
+-- "Exactly one" wherever an option's clauses stand; and from propagation alone, that a setting which satisfies them makes
+-- one value true and no other. Assumes nothing.
+use mathlib.Core.Path.{_≡_, sym, _∙_, ap, subst}
+use mathlib.Core.Logic.{⊎-elim}
 use mathlib.Core.Bool.{true, false, not}
+use mathlib.Core.List.{List}
 use Prim.Native.Nat.{ℕ, _+_, _<_}
 use native.Mathlib.Decide.{ℕ-discrete}
 use lib.Dec.{eqb}
@@ -9,19 +11,26 @@ use lib.IntN.{ℤ}
 use borrow.Author.Tests.{eq-eqb, ne-eqb}
 use Rattle.lists.specs.Upto.{lastTo}
 use Rattle.lists.proofs.UptoLaws.{last-is}
-use Rattle.cnf.specs.Clause.{Setting, holds, Satisfies, given}
-use Rattle.cnf.proofs.Propagation.{said, reached-holds, no-conflict}
+use Rattle.cnf.specs.Clause.{Clause, plain, negated, Setting, holds, Satisfies, Among, Reached, Conflict}
+use Rattle.cnf.proofs.Propagation.{said, reached-holds, no-conflict, reached-through, conflict-through}
 use Rattle.diagram.specs.Numbers.{valueNumber}
 use Rattle.clauses.specs.Clauses.{Edition}
-use Rattle.clauses.specs.Editions.{ExactlyOne}
+use Rattle.clauses.specs.Editions.{OneIn, AllOut, ExactlyOne}
 
-module _ (e : Edition) (one : ExactlyOne e) (b h k : ℕ) (σ : Setting) (s : Satisfies σ (e .option b h k)) where
-  -- given: whatever the setting makes true
-  abbrev True : ℤ → Type 0
-  True l = holds σ l ≡ true
+-- ---- in any list of clauses that has them, from any given literals
 
+module _ {e : Edition} (one : ExactlyOne e) (b h k : ℕ) {Given : ℤ → Type 0} {cs : List Clause} (among : Among (e .option b h k) cs) where
+  pub rules-out-in : (i j : ℕ) → i < k → j < k → (i ≡ j → ⊥) → Reached Given cs (plain (valueNumber b j)) → Reached Given cs (negated (valueNumber b i))
+  rules-out-in i j hi hj n r = reached-through (λ l q. subst (Reached Given cs) (sym q) r) among (one .rules-out b h k i j hi hj n)
+
+  pub conflicts-in : ((j : ℕ) → j < k → Reached Given cs (negated (valueNumber b j))) → Conflict Given cs
+  conflicts-in f = conflict-through (λ l t. subst (Reached Given cs) (sym (t .2)) (f (t .0) (t .1))) among (one .conflicts b h k)
+
+-- ---- a setting that satisfies clauses with such a propagation
+
+module _ (b k : ℕ) (cs : List Clause) (conflicts : Conflict (AllOut b k) cs) (rules-out : (i j : ℕ) → i < k → j < k → (i ≡ j → ⊥) → Reached (OneIn b j) cs (negated (valueNumber b i))) (σ : Setting) (s : Satisfies σ cs) where
   no-second : (i j : ℕ) → i < k → j < k → (i ≡ j → ⊥) → σ (valueNumber b j) ≡ true → σ (valueNumber b i) ≡ false
-  no-second i j hi hj n p = said σ false (b + i) (reached-holds σ s (λ l q. q) (one .rules-out b h k True (e .option b h k) (λ c m. m) i j hi hj n (given p)))
+  no-second i j hi hj n p = said σ false (b + i) (reached-holds σ s (λ l q. subst (λ (m : ℤ). holds σ m ≡ true) (sym q) p) (rules-out i j hi hj n))
 
   -- the last value that is true
   abbrev last : ℕ
@@ -31,9 +40,8 @@ module _ (e : Edition) (one : ExactlyOne e) (b h k : ℕ) (σ : Setting) (s : Sa
   some = ⊎-elim (λ r. r) none (last-is (λ j. σ (valueNumber b j)) k)
     where
       none : ((j : ℕ) → j < k → σ (valueNumber b j) ≡ false) → (last < k) × (σ (valueNumber b last) ≡ true)
-      none f = absurd (no-conflict σ s (λ l q. q) (one .conflicts b h k True (e .option b h k) (λ c m. m) (λ j hj. given (ap not (f j hj)))))
+      none f = absurd (no-conflict σ s (λ l t. subst (λ (m : ℤ). holds σ m ≡ true) (sym (t .2)) (ap not (f (t .0) (t .1)))) conflicts)
 
-  -- one value is true, and no other
   pub one-value : (j : ℕ) × (j < k) × ((i : ℕ) → i < k → σ (valueNumber b i) ≡ eqb i j)
   one-value = (last, some .0, λ i hi. go i hi (ℕ-discrete i last))
     where

@@ -23,7 +23,7 @@ use Rattle.diagram.proofs.ShapedLaws.{asked-in, edge-sums}
 use Rattle.diagram.proofs.NumberLaws.{value-sums, target-most}
 use Rattle.clauses.specs.Variables.{valueVariable, referenceVariable, edgeVariable}
 use Rattle.clauses.specs.Clauses.{Edition, helperNumber, units, edgeClauses, nodeClauses, firstHelper, lastVariable, optionClauses, clauses}
-use Rattle.clauses.specs.Editions.{Literals, OwnVariables}
+use Rattle.clauses.specs.Editions.{Literals, Own, own-value, own-helper, OwnVariables}
 use Rattle.clauses.proofs.OneOf.{one-of-literals}
 
 module _ (e : Edition) (d : Lent) where
@@ -54,11 +54,15 @@ module _ (e : Edition) (d : Lent) where
     unfolding clauses
     literal-within =
         every-both All (upTo (options d) (optionClauses e d))
-        (every-upTo All (options d) (optionClauses e d) (λ i h. ok .own Variable (firstValue d i) (firstHelper e d i) (domain d i) (λ j l. value-within i j h l) (λ t l. helper-within i t h l)))
+        (every-upTo All (options d) (optionClauses e d) (λ i h c m l n. own-within i h (natAbs l) (ok (firstValue d i) (firstHelper e d i) (domain d i) c m l n)))
         (every-both All (units (values d)) of-units (every-upTo All (nodes d) (nodeClauses d) of-node))
       where
         All : Clause → Type 0
         All = Literals Variable
+
+        own-within : (i : ℕ) → i < options d → (n : ℕ) → Own e (firstValue d i) (firstHelper e d i) (domain d i) n → Variable n
+        own-within i h n (own-value j l) = value-within i j h l
+        own-within i h n (own-helper t l) = helper-within i t h l
 
         each : (c : Clause) → Each (λ l. Variable (natAbs l)) c → All c
         each = each-every (λ l. Variable (natAbs l))

@@ -9,10 +9,10 @@ use lib.IntN.{ℤ, negℤ, natAbs}
 use borrow.Author.Tests.{eq-eqb}
 use Rattle.lists.proofs.UptoLaws.{in-list, of-list}
 use Rattle.lists.proofs.EveryLaws.{every-upTo, each-every}
-use Rattle.cnf.specs.Clause.{Clause, plain, negated, Setting, holds, Held, Reached, Conflict}
+use Rattle.cnf.specs.Clause.{Clause, plain, negated, Setting, holds, Held, Reached, given, Conflict}
 use Rattle.diagram.specs.Numbers.{valueNumber}
 use Rattle.clauses.specs.Clauses.{oneOf, allValues}
-use Rattle.clauses.specs.Editions.{Literals}
+use Rattle.clauses.specs.Editions.{AllOut, Literals}
 
 module _ (f : ℕ → ℕ) (k : ℕ) where
   pub one-of-held : (σ : Setting) (j : ℕ) → j < k → holds σ (plain (f j)) ≡ true → Held σ (oneOf f k)
@@ -30,5 +30,5 @@ module _ (f : ℕ → ℕ) (k : ℕ) where
 pub values-held : (b k j : ℕ) → j < k → (σ : Setting) → ((i : ℕ) → i < k → σ (valueNumber b i) ≡ eqb i j) → Held σ (allValues b k)
 values-held b k j h σ f = one-of-held (λ j. valueNumber b j) k σ j h (f j h ∙ eq-eqb j j refl)
 
-pub values-conflict : (b k : ℕ) (Given : ℤ → Type 0) (cs : List Clause) → List·Memᴰ (allValues b k) cs → ((j : ℕ) → j < k → Reached Given cs (negated (valueNumber b j))) → Conflict Given cs
-values-conflict b k Given cs m f = record { clause = allValues b k; among = m; against = one-of-out (λ j. valueNumber b j) k (Reached Given cs) f }
+pub values-conflict : (b k : ℕ) (cs : List Clause) → List·Memᴰ (allValues b k) cs → Conflict (AllOut b k) cs
+values-conflict b k cs m = record { clause = allValues b k; among = m; against = one-of-out (λ j. valueNumber b j) k (Reached (AllOut b k) cs) (λ j h. given (j, h, refl)) }

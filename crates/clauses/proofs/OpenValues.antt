@@ -18,6 +18,7 @@ use Rattle.diagram.proofs.AllowsLaws.{Later, Ranked, asked-option, every-refere
 use Rattle.clauses.specs.Variables.{valueVariable, referenceVariable, edgeVariable}
 use Rattle.clauses.specs.Clauses.{Edition, firstHelper}
 use Rattle.clauses.specs.Editions.{ExactlyOne}
+use Rattle.clauses.proofs.ExactlyOneLaws.{conflicts-in}
 use Rattle.clauses.proofs.Common.{Common, false-out, root-conflict, t1-step, t3-step, t4-step}
 
 -- the build takes open values alone
@@ -79,7 +80,7 @@ module _ (e : Edition) (one : ExactlyOne e) (d : Lent) (ok : Ranked d) (cs : Lis
 
   -- an option has an open value, or its own clauses conflict
   option : (i : ℕ) → i < options d → Conflict Given cs ⊎ OneOpen i
-  option i h = ⊎-elim (λ (t : OneOpen i). inr t) (λ f. inl (one .conflicts (firstValue d i) (firstHelper e d i) (domain d i) Given cs (has .has-option i h) f))
+  option i h = ⊎-elim (λ (t : OneOpen i). inr t) (λ f. inl (conflicts-in one (firstValue d i) (firstHelper e d i) (domain d i) (has .has-option i h) f))
       (either (λ j. Reached Given cs (negated (valueVariable d i j))) (domain d i) (λ j hj. ⊎-elim (λ (o : Open i j). inl (j, (hj, o))) (λ r. inr r) (open-or-out i j h hj)))
 
   pub open-conflict : ((x : ℕ → ℕ) → Takes d Open x → Allows d x → ⊥) → Conflict Given cs

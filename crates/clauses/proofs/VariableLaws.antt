@@ -14,7 +14,7 @@ use Rattle.diagram.specs.Lent.{Lent, options, nodes, domain, width, firstEdge, 
 use Rattle.diagram.specs.Numbers.{firstValue, values}
 use Rattle.diagram.proofs.ShapedLaws.{edge-sums}
 use Rattle.diagram.proofs.NumberLaws.{value-sums}
-use Rattle.clauses.specs.Variables.{valueVariable, referenceVariable, edgeVariable, variables}
+use Rattle.clauses.specs.Variables.{valueVariable, referenceVariable, edgeVariable, lastEdgeVariable}
 use Rattle.clauses.specs.Clauses.{Edition, helperNumber, firstHelper, lastVariable}
 
 -- entry u of those that stand one after the other, f k of them for each k, where g k gives the k-th lot
@@ -84,7 +84,7 @@ module _ (e : Edition) (d : Lent) (value : ℕ → ℕ → Bool) (reference : �
   pub of-helper : (i t : ℕ) → i < options d → t < e .helpers (domain d i) → settingOf (helperNumber (firstHelper e d i) t) ≡ helper i t
   unfolding settingOf firstHelper
   of-helper i t h l =
-      ap below (let q : variables d + helperSum i + t ≡ values d + (nodes d + 2 + (edges d + (helperSum i + t))) = omega arith in q)
+      ap below (let q : lastEdgeVariable d + helperSum i + t ≡ values d + (nodes d + 2 + (edges d + (helperSum i + t))) = omega arith in q)
       ∙ beside-then (values d) valueAt afterValues (nodes d + 2 + (edges d + (helperSum i + t)))
       ∙ beside-then (nodes d + 2) reference afterReferences (edges d + (helperSum i + t))
       ∙ beside-then (edges d) edgeAt helperAt (helperSum i + t)
@@ -104,18 +104,18 @@ module _ (e : Edition) (d : Lent) (P : ℕ → Type 0)
   reference-number : (u : ℕ) → values d ≤ u → u < values d + nodes d + 2 → P (suc u)
   reference-number u l k = let q : values d + (u - values d) ≡ u = omega arith in subst (λ (u : ℕ). P (suc u)) q (at-reference (u - values d) (omega arith))
 
-  edge-number : (u : ℕ) → values d + nodes d + 2 ≤ u → u < variables d → P (suc u)
+  edge-number : (u : ℕ) → values d + nodes d + 2 ≤ u → u < lastEdgeVariable d → P (suc u)
   unfolding firstEdge
   edge-number u l k =
       let t = sum-split (width d) (nodes d) (u - (values d + nodes d + 2)) (omega arith) in
       let q : values d + nodes d + 2 + (sumTo (t .0) (width d) + t .1) ≡ u = omega (arith, t .4) in
       subst (λ (u : ℕ). P (suc u)) q (at-edge (t .0) (t .1) (t .2) (t .3))
 
-  helper-number : (u : ℕ) → variables d ≤ u → u < lastVariable e d → P (suc u)
+  helper-number : (u : ℕ) → lastEdgeVariable d ≤ u → u < lastVariable e d → P (suc u)
   unfolding firstHelper
   helper-number u l k =
-      let t = sum-split (λ i. e .helpers (domain d i)) (options d) (u - variables d) (omega arith) in
-      let q : variables d + sumTo (t .0) (λ i. e .helpers (domain d i)) + t .1 ≡ u = omega (arith, t .4) in
+      let t = sum-split (λ i. e .helpers (domain d i)) (options d) (u - lastEdgeVariable d) (omega arith) in
+      let q : lastEdgeVariable d + sumTo (t .0) (λ i. e .helpers (domain d i)) + t .1 ≡ u = omega (arith, t .4) in
       subst (λ (u : ℕ). P (suc u)) q (at-helper (t .0) (t .1) (t .2) (t .3))
 
   pub every-variable : (n : ℕ) → 1 ≤ n → n ≤ lastVariable e d → P n
@@ -123,5 +123,5 @@ module _ (e : Edition) (d : Lent) (P : ℕ → Type 0)
   every-variable (suc u) l k =
       ⊎-elim (value-number u) (λ (a : values d ≤ u).
       ⊎-elim (reference-number u a) (λ (b : values d + nodes d + 2 ≤ u).
-      ⊎-elim (edge-number u b) (λ (c : variables d ≤ u). helper-number u c (omega arith))
-      (below-or-not u (variables d))) (below-or-not u (values d + nodes d + 2))) (below-or-not u (values d))
+      ⊎-elim (edge-number u b) (λ (c : lastEdgeVariable d ≤ u). helper-number u c (omega arith))
+      (below-or-not u (lastEdgeVariable d))) (below-or-not u (values d + nodes d + 2))) (below-or-not u (values d))

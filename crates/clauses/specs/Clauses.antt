@@ -6,7 +6,7 @@ use Rattle.lists.specs.Upto.{sumTo, upTo}
 use Rattle.cnf.specs.Clause.{Clause, plain, negated}
 use Rattle.diagram.specs.Lent.{Lent, options, nodes, domain, width}
 use Rattle.diagram.specs.Numbers.{valueNumber, referenceNumber, firstValue, values}
-use Rattle.clauses.specs.Variables.{nodeVariable, edgeVariable, targetVariable, askedVariable, variables}
+use Rattle.clauses.specs.Variables.{nodeVariable, edgeVariable, targetVariable, askedVariable, lastEdgeVariable}
 
 -- the clause "one of k variables", where f gives their numbers
 abbrev pub oneOf : (ℕ → ℕ) → ℕ → Clause
@@ -93,7 +93,7 @@ nodeClauses d v = t1to5 (nodeVariable d v) (λ j. edgeVariable d v j) (λ j. edg
 module _ (e : Edition) (d : Lent) where
   -- how many variables stand before the helpers of option i: they come after the last edge, option by option
   unfoldable pub firstHelper : ℕ → ℕ
-  firstHelper i = variables d + sumTo i (λ i. e .helpers (domain d i))
+  firstHelper i = lastEdgeVariable d + sumTo i (λ i. e .helpers (domain d i))
 
   -- V: the last variable's number
   abbrev pub lastVariable : ℕ

@@ -26,5 +26,5 @@ module _ (d : Lent) where
   askedVariable v j = valueVariable (asked d v) j
 
   -- the last number of values, references and edges
-  abbrev pub variables : ℕ
-  variables = lastNumber (values d) (nodes d) (edges d)
+  abbrev pub lastEdgeVariable : ℕ
+  lastEdgeVariable = lastNumber (values d) (nodes d) (edges d)

@@ -1,18 +1,22 @@
 -- The picture of sample S3 is right; and S1, S2 and S3 are sound, so that no theorem about sound diagrams is empty.
 -- Assumes nothing.
-use mathlib.Core.Path.{_≡_, refl, _∙_, ap, subst}
-use mathlib.Core.Bool.{Bool}
-use mathlib.Core.List.{List, [], _∷_, List·Memᴰ·head, List·Memᴰ·tail}
+use mathlib.Core.Path.{_≡_, refl, sym, _∙_, ap, subst}
+use mathlib.Core.Logic.{_⊎_, inl, inr, ⊎-elim}
+use mathlib.Core.Bool.{Bool, true, false, _&&_, false≢true}
+use mathlib.Core.List.{List, [], _∷_, List·Memᴰ, List·Memᴰ·head, List·Memᴰ·tail}
 use Prim.Native.Nat.{ℕ, zero, suc, _<_}
 use native.Mathlib.Omega.{arith}
-use lib.IntN.{ℤ}
+use lib.Dec.{eqb}
+use lib.IntN.{ℤ, negℤ}
+use lib.ListN.{length, getD}
 use Rattle.lists.specs.Upto.{sumTo, upTo, lastTo}
-use Rattle.lists.specs.Every.{Each}
+use Rattle.lists.specs.Every.{Every, Each}
 use Rattle.lists.specs.First.{first}
 use Rattle.lists.proofs.UptoLaws.{list-same}
+use Rattle.lists.proofs.EveryLaws.{every-more, each-every}
 use Rattle.refusal.specs.Rules.{chain}
-use Rattle.cnf.specs.Clause.{Clause, negated, Setting, Reached}
-use Rattle.diagram.specs.Lent.{firstEdge, step, walk, AllowsFrom}
+use Rattle.cnf.specs.Clause.{Clause, plain, Setting, Reached, unit, Conflict}
+use Rattle.diagram.specs.Lent.{firstEdge, step, walk, end, chosen, Build, RootAllows}
 use Rattle.diagram.specs.Numbers.{firstValue}
 use Rattle.diagram.specs.Sound.{Sound}
 use Rattle.diagram.specs.Rules.{badLayer, permits, owner, badTarget, optionRules, nodeRules, targetRules, checkRules}
@@ -20,18 +24,18 @@ use Rattle.diagram.proofs.SoundLaws.{passed-sound}
 use Rattle.diagram.proofs.AllowsLaws.{Ranked, sound-ranked, allows-exactly}
 use Rattle.judge.specs.Build.{buildRules, Fits}
 use Rattle.judge.proofs.JudgeLaws.{passed-fits}
-use Rattle.clauses.specs.Variables.{valueVariable, referenceVariable, edgeVariable}
-use Rattle.clauses.specs.Clauses.{edition1, firstHelper, clauses}
+use Rattle.clauses.specs.Clauses.{edition1, firstHelper, lastVariable, clauses}
 use Rattle.clauses.proofs.Edition1.{edition1-one}
 use Rattle.clauses.proofs.VariableLaws.{settingOf}
-use Rattle.clauses.proofs.Common.{Common, clauses-common, false-out, value-out, t1-step, t3-step, t4-step}
+use Rattle.clauses.proofs.Common.{Common, clauses-common}
 use Rattle.clauses.proofs.Decided.{arrives, taken}
 use Rattle.clauses.proofs.Satisfied.{clauses-meant}
-use Rattle.demands.specs.Demand3.{SettingFor, SameTo, Chosen, OneSetting, NoSetting}
+use Rattle.demands.specs.HalfFinished.{OrderLiteral, FitsOrder}
+use Rattle.demands.specs.Demand3.{SettingFor, SameTo, OneSetting, NoSetting, Meaning}
 use Rattle.demands.specs.Samples.{s1, s2, s3}
-use Rattle.demands.specs.Picture.{s3Clauses, build01, build11, setting01, chain11, Picture}
-use Rattle.demands.proofs.Meaning.{chosen-reached, ownSetting, setting-own}
-use Rattle.demands.proofs.Demand3.{edition1-means}
+use Rattle.demands.specs.Picture.{s3Clauses, build01, build11, setting01, Step, Chain, chain11, first0Out, second0Out, secondOut, Picture}
+use Rattle.demands.proofs.Meaning.{ownSetting, setting-own}
+use Rattle.demands.proofs.Demand3.{edition1-demand3}
 
 pub samples-sound : Each Sound (s1 ∷ s2 ∷ s3 ∷ [])
 unfolding sumTo lastTo first chain firstEdge badLayer permits owner badTarget optionRules nodeRules targetRules checkRules
@@ -52,6 +56,9 @@ ok3 = sound-ranked s3 sound3
 abbrev has : Common edition1 s3 (clauses edition1 s3)
 has = clauses-common edition1 s3
 
+abbrev meaning3 : Meaning s3 (lastVariable edition1 s3) (clauses edition1 s3) (Fits s3) chosen
+meaning3 = edition1-demand3 .with-lists s3 sound3
+
 fits01 : Fits s3 (0 ∷ 1 ∷ [])
 unfolding first chain buildRules
 fits01 = passed-fits s3 (0 ∷ 1 ∷ []) refl
@@ -60,11 +67,11 @@ fits11 : Fits s3 (1 ∷ 1 ∷ [])
 unfolding first chain buildRules
 fits11 = passed-fits s3 (1 ∷ 1 ∷ []) refl
 
-allows01 : AllowsFrom s3 build01 2
+allows01 : RootAllows s3 build01
 unfolding sumTo firstEdge step walk
 allows01 = allows-exactly s3 ok3 build01 (fits01 .in-domain) .0 refl
 
-not-allows11 : AllowsFrom s3 build11 2 → ⊥
+not-allows11 : RootAllows s3 build11 → ⊥
 unfolding sumTo firstEdge step walk
 not-allows11 a = absurd (let q : _≡_ {A = ℕ} 0 1 = allows-exactly s3 ok3 build11 (fits11 .in-domain) .1 a in omega arith)
 
@@ -79,7 +86,7 @@ own-is = refl
 
 one01 : OneSetting s3 12 (clauses edition1 s3) build01
 unfolding sumTo firstEdge firstValue firstHelper
-one01 = edition1-means .with-lists s3 sound3 .allowed (0 ∷ 1 ∷ []) fits01 allows01
+one01 = meaning3 .allowed (0 ∷ 1 ∷ []) fits01 allows01
 
 setting-of : (σ : Setting) → SettingFor s3 (clauses edition1 s3) build01 σ → upTo 12 (λ k. σ (suc k) ∷ []) ≡ setting01
 unfolding sumTo firstEdge firstValue firstHelper
@@ -90,26 +97,69 @@ setting-of σ p = list-same (λ k. σ (suc k) ∷ []) (λ k. own (suc k) ∷ [])
 
 -- ---- the chain
 
-abbrev R : ℤ → Type 0
-R = Reached (Chosen s3 build11) (clauses edition1 s3)
+entry-in : {A : Type 0} (a : A) (l : List A) (k : ℕ) → k < length l → List·Memᴰ (getD l k a) l
+entry-in a [] k h = absurd (omega arith)
+entry-in a (x ∷ l) zero h = List·Memᴰ·head refl
+entry-in a (x ∷ l) (suc k) h = List·Memᴰ·tail (entry-in a l k (omega arith))
 
-other-value : R (negated (valueVariable s3 0 0))
-other-value = value-out has edition1-one build11 (fits11 .in-domain) (chosen-reached s3 build11 (clauses edition1 s3)) 0 0 (omega arith) (omega arith) (λ q. omega arith)
+-- a chain from literals that are reached is a propagation that ends in a conflict
+pub chain-conflict : {Given : ℤ → Type 0} (cs : List Clause) (known : List ℤ) (steps : List Step) (k : ℕ) → Every (Reached Given cs) known → Chain cs known steps k → Conflict Given cs
+chain-conflict {Given} cs known [] k r c = record { clause = getD cs k []; among = entry-in [] cs k (c .0); against = λ m mm. r (negℤ m) (each-every (λ m. List·Memᴰ (negℤ m) known) (getD cs k []) (c .1) m mm) }
+chain-conflict {Given} cs known (s ∷ rest) k r c = chain-conflict cs (s .reaches ∷ known) rest k (every-more (Reached Given cs) reached r) (c .3)
+  where
+    reached : Reached Given cs (s .reaches)
+    reached = unit (getD cs (s .by) []) (entry-in [] cs (s .by) (c .0)) (c .1) (λ m mm ne. ⊎-elim (λ (q : m ≡ s .reaches). absurd (ne q)) (r (negℤ m)) (each-every (λ m. (m ≡ s .reaches) ⊎ List·Memᴰ (negℤ m) known) (getD cs (s .by) []) (c .2) m mm))
 
-root-edge : (j : ℕ) → j < 2 → R (negated (edgeVariable s3 0 j))
-unfolding sumTo firstEdge
-root-edge zero h = t4-step has 0 (omega arith) 0 h other-value
-root-edge (suc zero) h = t3-step has 0 (omega arith) 1 h (false-out has)
-root-edge (suc (suc j)) h = absurd (omega arith)
+at-once : {A : Type 0} {a : A} {l : List A} → List·Memᴰ a (a ∷ l)
+at-once = List·Memᴰ·head refl
 
-root-out : R (negated (referenceVariable s3 2))
-root-out = t1-step has 0 (omega arith) root-edge
+the-chain : Chain s3Clauses (plain 2 ∷ plain 4 ∷ []) chain11 6
+the-chain = (
+  omega arith,
+  at-once,
+  (inl refl, (inr at-once, tt)),
+  (
+    omega arith,
+    at-once,
+    (inl refl, (inr at-once, tt)),
+    (
+      omega arith,
+      at-once,
+      (inl refl, tt),
+      (
+        omega arith,
+        at-once,
+        (inl refl, (inr at-once, tt)),
+        (
+          omega arith,
+          at-once,
+          (inl refl, (inr (List·Memᴰ·tail (List·Memᴰ·tail at-once)), (inr at-once, tt))),
+          (omega arith, (at-once, tt)),
+        ),
+      ),
+    ),
+  ),
+)
 
-reached-chain : Each R chain11
-unfolding sumTo firstEdge firstValue
-reached-chain =
-    let by-build = chosen-reached s3 build11 (clauses edition1 s3) in
-    (by-build 0 (omega arith), (by-build 1 (omega arith), (other-value, (root-edge 0 (omega arith), (false-out has, (root-edge 1 (omega arith), (root-out, tt)))))))
+-- ---- the orders
+
+-- with value 0 of the at-once option ruled out no allowed build fits
+first-none : (x : ℕ → ℕ) → Build s3 x → FitsOrder s3 first0Out x → RootAllows s3 x → ⊥
+unfolding sumTo firstEdge step walk
+first-none x b f a = go (x 0) (b 0 (omega arith)) (f .keeps-out 0 (omega arith)) refl
+  where
+    go : (j : ℕ) → j < 2 → eqb 0 0 && eqb j 0 ≡ false → x 0 ≡ j → ⊥
+    go zero h p q = false≢true (sym p)
+    go (suc zero) h p q = absurd (let w : end s3 x 2 ≡ 1 = allows-exactly s3 ok3 x b .1 a in let z : _≡_ {A = ℕ} 0 1 = rw q at w in omega arith)
+    go (suc (suc j)) h p q = absurd (omega arith)
+
+second-fits : FitsOrder s3 second0Out build01
+second-fits = record { keeps-in = λ i j h l p. absurd (false≢true p); keeps-out = out }
+  where
+    out : (i : ℕ) → i < 2 → eqb i 1 && eqb (build01 i) 0 ≡ false
+    out zero h = refl
+    out (suc zero) h = refl
+    out (suc (suc i)) h = absurd (omega arith)
 
 pub picture : Picture
 picture =
@@ -118,7 +168,9 @@ picture =
       the-clauses = the-clauses;
       has-setting = subst (λ (cs : List Clause). OneSetting s3 12 cs build01) the-clauses one01;
       the-setting = subst (λ (cs : List Clause). (σ : Setting) → SettingFor s3 cs build01 σ → upTo 12 (λ k. σ (suc k) ∷ []) ≡ setting01) the-clauses setting-of;
-      has-none = subst (λ (cs : List Clause). NoSetting s3 cs build11) the-clauses (edition1-means .with-lists s3 sound3 .not-allowed (1 ∷ 1 ∷ []) fits11 not-allows11);
-      the-chain = subst (λ (cs : List Clause). Each (Reached (Chosen s3 build11) cs) chain11) the-clauses reached-chain;
-      the-conflict = List·Memᴰ·tail (List·Memᴰ·tail (List·Memᴰ·tail (List·Memᴰ·tail (List·Memᴰ·tail (List·Memᴰ·tail (List·Memᴰ·head refl))))));
+      has-none = subst (λ (cs : List Clause). NoSetting s3 cs build11) the-clauses (meaning3 .not-allowed (1 ∷ 1 ∷ []) fits11 not-allows11);
+      the-chain = the-chain;
+      first-conflicts = subst (λ (cs : List Clause). Conflict (OrderLiteral s3 first0Out) cs) the-clauses (edition1-demand3 .with-functions s3 sound3 .half-finished .none-fits first0Out first-none);
+      second-open = subst (λ (cs : List Clause). Conflict (OrderLiteral s3 second0Out) cs → ⊥) the-clauses (meaning3 .half-finished .one-fits second0Out (0 ∷ 1 ∷ []) fits01 second-fits allows01);
+      second-conflicts = edition1-demand3 .option-out s3 secondOut 1 (omega arith) (λ j h. refl);
     }

@@ -3,17 +3,21 @@
 -- is F, 6 is T, 7 the root, 8 the other node; 9, 10 are the root's edges, to the other node and to F; 11, 12 that node's,
 -- to F and to T. Assumes nothing.
 use mathlib.Core.Path.{_≡_}
-use mathlib.Core.Bool.{Bool, true, false}
+use mathlib.Core.Logic.{_⊎_}
+use mathlib.Core.Bool.{Bool, true, false, _&&_}
 use mathlib.Core.List.{List, [], _∷_, List·Memᴰ}
-use Prim.Native.Nat.{ℕ, suc}
-use lib.IntN.{ℤ}
+use Prim.Native.Nat.{ℕ, suc, _<_}
+use lib.Dec.{eqb}
+use lib.IntN.{ℤ, negℤ}
+use lib.ListN.{length, getD}
 use Rattle.lists.specs.Upto.{upTo}
 use Rattle.lists.specs.Every.{Each}
-use Rattle.cnf.specs.Clause.{Clause, plain, negated, Setting, Reached}
+use Rattle.cnf.specs.Clause.{Clause, plain, negated, Setting, Conflict}
 use Rattle.diagram.specs.Lent.{chosen}
 use Rattle.diagram.specs.Sound.{Sound}
-use Rattle.clauses.specs.Clauses.{edition1, clauses}
-use Rattle.demands.specs.Demand3.{SettingFor, Chosen, OneSetting, NoSetting}
+use Rattle.clauses.specs.Clauses.{edition1, optionClauses, clauses}
+use Rattle.demands.specs.HalfFinished.{Order, OrderLiteral}
+use Rattle.demands.specs.Demand3.{SettingFor, OneSetting, NoSetting}
 use Rattle.demands.specs.Samples.{s3}
 
 abbrev pub s3Clauses : List Clause
@@ -66,10 +70,40 @@ setting01 =
     -- the root's edges, and that node's
     ∷ true ∷ false ∷ false ∷ true ∷ []
 
--- from (1,1): its literals; the first option's other value is out; with it the root's first edge, by T4; F is out; with it
--- the root's second edge, by T3; so the root is out, by T1
-abbrev pub chain11 : List ℤ
-chain11 = plain 2 ∷ plain 4 ∷ negated 1 ∷ negated 9 ∷ negated 5 ∷ negated 10 ∷ negated 7 ∷ []
+-- a step of unit propagation: a literal, and which clause of the list it is by, counted from 0
+pub record Step : Type 0 where
+  pub reaches : ℤ
+  pub by : ℕ
+
+abbrev pub step : ℤ → ℕ → Step
+step l k = record { reaches = l; by = k }
+
+-- from the known literals each step reaches its own: its clause has it, and beside it only literals whose negation is known
+-- by then. At the end the negation of every literal of clause k is known
+abbrev pub Chain : List Clause → List ℤ → List Step → ℕ → Type 0
+Chain cs known [] k = (k < length cs) × Each (λ m. List·Memᴰ (negℤ m) known) (getD cs k [])
+Chain cs known (s ∷ rest) k = (s .by < length cs) × List·Memᴰ (s .reaches) (getD cs (s .by) []) × Each (λ m. (m ≡ s .reaches) ⊎ List·Memᴰ (negℤ m) known) (getD cs (s .by) []) × Chain cs (s .reaches ∷ known) rest k
+
+-- from (1,1): the first option's other value is out, by the pair; with it the root's first edge, by T4; F is out, by its
+-- unit; with it the root's second edge, by T3; so the root is out, by T1
+abbrev pub chain11 : List Step
+chain11 =
+    step (negated 1) 1
+    ∷ step (negated 9) 10
+    ∷ step (negated 5) 5
+    ∷ step (negated 10) 13
+    ∷ step (negated 7) 7
+    ∷ []
+
+-- orders on S3: value 0 of the first option ruled out; value 0 of the second ruled out; both values of the second
+abbrev pub first0Out : Order
+first0Out = record { ruledIn = λ i j. false; ruledOut = λ i j. eqb i 0 && eqb j 0 }
+
+abbrev pub second0Out : Order
+second0Out = record { ruledIn = λ i j. false; ruledOut = λ i j. eqb i 1 && eqb j 0 }
+
+abbrev pub secondOut : Order
+secondOut = record { ruledIn = λ i j. false; ruledOut = λ i j. eqb i 1 }
 
 pub record Picture : Type 0 where
   pub sound : Sound s3
@@ -77,7 +111,10 @@ pub record Picture : Type 0 where
   -- (0,1) has a setting, and only this one
   pub has-setting : OneSetting s3 12 s3Clauses build01
   pub the-setting : (σ : Setting) → SettingFor s3 s3Clauses build01 σ → upTo 12 (λ k. σ (suc k) ∷ []) ≡ setting01
-  -- (1,1) has none; each literal of the chain is reached, and a clause says the opposite of the last
+  -- (1,1) has none, and this chain from its two literals ends in a conflict with the clause "root"
   pub has-none : NoSetting s3 s3Clauses build11
-  pub the-chain : Each (Reached (Chosen s3 build11) s3Clauses) chain11
-  pub the-conflict : List·Memᴰ (plain 7 ∷ []) s3Clauses
+  pub the-chain : Chain s3Clauses (plain 2 ∷ plain 4 ∷ []) chain11 6
+  -- the first order conflicts, the second does not, and the third in the second option's own clauses
+  pub first-conflicts : Conflict (OrderLiteral s3 first0Out) s3Clauses
+  pub second-open : Conflict (OrderLiteral s3 second0Out) s3Clauses → ⊥
+  pub second-conflicts : Conflict (OrderLiteral s3 secondOut) (optionClauses edition1 s3 1)

@@ -5,7 +5,7 @@ use mathlib.Core.Logic.{_⊎_, ⊎-elim, _↔_}
 use Prim.Native.Nat.{ℕ, zero, suc, _+_, _-_, _≤_, _<_}
 use native.Mathlib.Omega.{arith}
 use Rattle.lists.proofs.UptoLaws.{below-or-not}
-use Rattle.diagram.specs.Lent.{Lent, options, nodes, layer, asked, width, target, step, walk, end, Allows, Build, AllowsFrom, at-true, along}
+use Rattle.diagram.specs.Lent.{Lent, options, nodes, layer, asked, width, target, step, walk, end, Allows, Build, AllowsFrom, at-true, along, RootAllows}
 use Rattle.diagram.specs.Sound.{Within, Shaped, Permitted, to-false, to-true, to-node, Sound}
 use Rattle.diagram.proofs.ShapedLaws.{layer-within, layers-rise}
 
@@ -135,5 +135,5 @@ module _ (d : Lent) where
       from-allows at-true = walk-true x (options d)
       from-allows (along {v = v} h j a) = end-step v h ∙ from-allows a
 
-      pub allows-exactly : Allows d x ↔ AllowsFrom d x 2
+      pub allows-exactly : Allows d x ↔ RootAllows d x
       allows-exactly = (allows-from 0 2 root-later, from-allows)

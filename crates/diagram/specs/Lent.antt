@@ -82,3 +82,7 @@ module _ (d : Lent) where
   pub data AllowsFrom (x : ℕ → ℕ) : ℕ → Type 0 where
     at-true : AllowsFrom x 1
     along : {v : ℕ} → v < nodes → x (asked v) < width v → AllowsFrom x (target v (x (asked v))) → AllowsFrom x (suc (suc v))
+
+  -- the diagram allows a build when its root does
+  abbrev pub RootAllows : (ℕ → ℕ) → Type 0
+  RootAllows x = AllowsFrom x 2

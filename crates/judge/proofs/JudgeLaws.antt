@@ -20,7 +20,7 @@ use Rattle.refusal.specs.declared.Verdict.the-variants.{Passed, Refused as Refu
 use Rattle.refusal.proofs.RulesLaws.{refuses, passes, passed, not-due}
 use Rattle.refusal.proofs.SaidLaws.{refused-as, said-passed}
 use Rattle.refusal.proofs.TableLaws.{Faithful, faithful-append, exactly-when}
-use Rattle.diagram.specs.Lent.{Lent, lent, options, domain, chosen, end, Allows, AllowsFrom}
+use Rattle.diagram.specs.Lent.{Lent, lent, options, domain, chosen, end, Allows, RootAllows}
 use Rattle.diagram.specs.Sound.{Sound, checkTable}
 use Rattle.diagram.specs.Rules.{checkRules}
 use Rattle.diagram.proofs.AllowsLaws.{sound-ranked, allows-exactly}
@@ -105,18 +105,18 @@ module _ (d : Lent) (build : List ℕ) where
     is-none true e = absurd (omega arith)
     is-none false e = refl
 
-    allowed-so : Sound d × Fits d build → Allows d (chosen build) ↔ AllowsFrom d (chosen build) 2
+    allowed-so : Sound d × Fits d build → Allows d (chosen build) ↔ RootAllows d (chosen build)
     allowed-so w = allows-exactly d (sound-ranked d (w .0)) (chosen build) (w .1 .in-domain)
 
     -- "allowed" is answered exactly when the diagram is sound, the build fits it, and the root allows the build
-    pub allowed-exactly : (answer .outcome ≡ Allowed) ↔ ((Sound d × Fits d build) × AllowsFrom d (chosen build) 2)
+    pub allowed-exactly : (answer .outcome ≡ Allowed) ↔ ((Sound d × Fits d build) × RootAllows d (chosen build))
     allowed-exactly = (
       (λ e. let w = tells Allowed 1 refl e in (w .0, allowed-so (w .0) .0 (eqb-true (end d (chosen build) 2) 1 (is-one (allowsTest d build) (sym (w .1)))))),
       (λ w. results Allowed true 1 refl refl (w .0) (eq-eqb (end d (chosen build) 2) 1 (allowed-so (w .0) .1 (w .1)))),
     )
 
     -- "not allowed" exactly when the diagram is sound, the build fits it, and the root does not allow it
-    pub not-allowed-exactly : (answer .outcome ≡ NotAllowed) ↔ ((Sound d × Fits d build) × (AllowsFrom d (chosen build) 2 → ⊥))
+    pub not-allowed-exactly : (answer .outcome ≡ NotAllowed) ↔ ((Sound d × Fits d build) × (RootAllows d (chosen build) → ⊥))
     not-allowed-exactly = (
       (λ e. let w = tells NotAllowed 0 refl e in (w .0, λ a. eqb-false (end d (chosen build) 2) 1 (is-none (allowsTest d build) (sym (w .1))) (allowed-so (w .0) .1 a))),
       (λ w. results NotAllowed false 0 refl refl (w .0) (ne-eqb (end d (chosen build) 2) 1 (λ q. w .1 (allowed-so (w .0) .0 q)))),
