@@ -4,14 +4,13 @@ use mathlib.Core.Path.{_≡_, refl}
 use mathlib.Core.Logic.{_⊎_, inl, inr}
 use mathlib.Core.Bool.{true, false}
 use mathlib.Core.List.{List·Memᴰ}
-use Prim.Native.Nat.{ℕ, zero, suc, _+_, _≤_, _<_}
+use Prim.Native.Nat.{ℕ, zero, suc, _≤_, _<_}
 use native.Mathlib.Omega.{arith}
 use lib.IntN.{ℤ, pos, negsuc, natAbs}
 use lib.ListN.{length}
 use Rattle.lists.specs.Signed.{isZero}
 use Rattle.lists.specs.Upto.{upTo}
 use Rattle.lists.specs.Every.{Every, Each}
-use Rattle.lists.proofs.UptoLaws.{sum-within}
 use Rattle.lists.proofs.EveryLaws.{every-more, every-both, every-upTo, each-every}
 use Rattle.cnf.specs.Clause.{Clause, words}
 use Rattle.cnf.specs.Words.{clausesOf, zeros, closed, NoZeros}
@@ -19,35 +18,20 @@ use Rattle.cnf.proofs.WordsLaws.{word-of, clauses-words, zeros-words, closed-wo
 use Rattle.diagram.specs.Lent.{Lent, options, nodes, domain, asked, width, target}
 use Rattle.diagram.specs.Numbers.{firstValue, values}
 use Rattle.diagram.specs.Sound.{Within, Sound}
-use Rattle.diagram.proofs.ShapedLaws.{asked-in, edge-sums}
-use Rattle.diagram.proofs.NumberLaws.{value-sums, target-most}
-use Rattle.clauses.specs.Variables.{valueVariable, referenceVariable, edgeVariable}
-use Rattle.clauses.specs.Clauses.{Edition, helperNumber, units, edgeClauses, nodeClauses, firstHelper, lastVariable, optionClauses, clauses}
+use Rattle.diagram.proofs.ShapedLaws.{asked-in}
+use Rattle.diagram.proofs.NumberLaws.{target-most}
+use Rattle.clauses.specs.Variables.{referenceVariable, edgeVariable}
+use Rattle.clauses.specs.Clauses.{Edition, units, edgeClauses, nodeClauses, firstHelper, lastVariable, optionClauses, clauses}
 use Rattle.clauses.specs.Editions.{Literals, Own, own-value, own-helper, OwnVariables}
+use Rattle.clauses.proofs.VariableLaws.{value-within, reference-within, edge-within, helper-within}
 use Rattle.clauses.proofs.OneOf.{one-of-literals}
 
 module _ (e : Edition) (d : Lent) where
-  abbrev pub Variable : ℕ → Type 0
-  Variable = Within 1 (lastVariable e d)
-
-  pub value-within : (i j : ℕ) → i < options d → j < domain d i → Variable (valueVariable d i j)
-  unfolding firstHelper
-  value-within i j h l = (omega arith, omega (arith, value-sums d .room i (options d) h))
-
-  pub reference-within : (r : ℕ) → r ≤ nodes d + 1 → Variable (referenceVariable d r)
-  unfolding firstHelper
-  reference-within r h = (omega arith, omega arith)
-
-  pub edge-within : (v j : ℕ) → v < nodes d → j < width d v → Variable (edgeVariable d v j)
-  unfolding firstHelper
-  edge-within v j h l = (omega arith, omega (arith, edge-sums d .room v (nodes d) h))
-
-  pub helper-within : (i t : ℕ) → i < options d → t < e .helpers (domain d i) → Variable (helperNumber (firstHelper e d i) t)
-  unfolding firstHelper
-  helper-within i t h l = (omega arith, omega (arith, sum-within (λ i. e .helpers (domain d i)) i (options d) t h l))
-
   pub closed-list : closed (words (clauses e d)) ≡ true
   closed-list = closed-words (clauses e d)
+
+  abbrev Variable : ℕ → Type 0
+  Variable = Within 1 (lastVariable e d)
 
   module _ (ok : OwnVariables e) (s : Sound d) where
     pub literal-within : (c : Clause) → List·Memᴰ c (clauses e d) → (l : ℤ) → List·Memᴰ l c → Within 1 (lastVariable e d) (natAbs l)
@@ -61,30 +45,30 @@ module _ (e : Edition) (d : Lent) where
         All = Literals Variable
 
         own-within : (i : ℕ) → i < options d → (n : ℕ) → Own e (firstValue d i) (firstHelper e d i) (domain d i) n → Variable n
-        own-within i h n (own-value j l) = value-within i j h l
-        own-within i h n (own-helper t l) = helper-within i t h l
+        own-within i h n (own-value j l) = value-within e d i j h l
+        own-within i h n (own-helper t l) = helper-within e d i t h l
 
         each : (c : Clause) → Each (λ l. Variable (natAbs l)) c → All c
         each = each-every (λ l. Variable (natAbs l))
 
         of-units : Every All (units (values d))
         of-units =
-            let unit : (r : ℕ) → r ≤ 2 → Variable (referenceVariable d r) = λ r h. reference-within r (omega (arith, s .shaped .nodes-fit)) in
+            let unit : (r : ℕ) → r ≤ 2 → Variable (referenceVariable d r) = λ r h. reference-within e d r (omega (arith, s .shaped .nodes-fit)) in
             each-every All (units (values d)) (each _ (unit 1 (omega arith), tt), (each _ (unit 0 (omega arith), tt), (each _ (unit 2 (omega arith), tt), tt)))
 
         of-node : (v : ℕ) → v < nodes d → Every All (nodeClauses d v)
         of-node v h =
-            every-more All (every-more (λ l. Variable (natAbs l)) node (one-of-literals (λ j. edgeVariable d v j) (width d v) Variable (λ j l. edge-within v j h l)))
+            every-more All (every-more (λ l. Variable (natAbs l)) node (one-of-literals (λ j. edgeVariable d v j) (width d v) Variable (λ j l. edge-within e d v j h l)))
             (every-upTo All (width d v) (edgeClauses d v) of-edge)
           where
             node : Variable (referenceVariable d (suc (suc v)))
-            node = reference-within (suc (suc v)) (omega arith)
+            node = reference-within e d (suc (suc v)) (omega arith)
 
             of-edge : (j : ℕ) → j < width d v → Every All (edgeClauses d v j)
             of-edge j l =
-                let edge = edge-within v j h l in
-                let target = reference-within (target d v j) (target-most d s v j h l) in
-                let value = value-within (asked d v) j (asked-in d (s .shaped) v h) l in
+                let edge = edge-within e d v j h l in
+                let target = reference-within e d (target d v j) (target-most d s v j h l) in
+                let value = value-within e d (asked d v) j (asked-in d (s .shaped) v h) l in
                 each-every All (edgeClauses d v j) (each _ (edge, (node, tt)), (each _ (edge, (target, tt)), (each _ (edge, (value, tt)), (each _ (target, (value, (edge, tt))), tt))))
 
     pub no-zeros : NoZeros (clauses e d)

@@ -1,4 +1,4 @@
--- Laws of the clause "one of k variables": in every edition the first clause of an option, and the tail of T1. Assumes
+-- Laws of the clause "at least one of k variables": the clause of all values of an option, and the tail of T1. Assumes
 -- nothing.
 use mathlib.Core.Path.{_≡_, refl, sym, _∙_, subst}
 use mathlib.Core.Bool.{true}

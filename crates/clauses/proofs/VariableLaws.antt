@@ -1,5 +1,5 @@
--- Every number from 1 to V is that of a value, a reference, an edge or a helper, and of one alone: so a setting can be made
--- of what each of them is to be, and what holds of all of them holds of every number. Assumes nothing.
+-- The numbers of values, references, edges and helpers are the numbers from 1 to V, each of one of them alone: so a setting
+-- can be made of what each of them is to be, and what holds of all of them holds of every number. Assumes nothing.
 use mathlib.Core.Path.{_≡_, sym, _∙_, ap, subst}
 use mathlib.Core.Bool.{Bool, false, cond}
 use mathlib.Core.Logic.{_⊎_, ⊎-elim}
@@ -8,10 +8,11 @@ use native.Mathlib.Omega.{arith}
 use lib.Dec.{ltb, leb}
 use borrow.Author.Tests.{lt-ltb, le-ltb}
 use Rattle.lists.specs.Upto.{sumTo, lastTo}
-use Rattle.lists.proofs.UptoLaws.{Sums, sums, sum-split, last-term, below-or-not}
+use Rattle.lists.proofs.UptoLaws.{Sums, sums, sum-within, sum-split, last-term, below-or-not}
 use Rattle.cnf.specs.Clause.{Setting}
 use Rattle.diagram.specs.Lent.{Lent, options, nodes, domain, width, firstEdge, edges}
 use Rattle.diagram.specs.Numbers.{firstValue, values}
+use Rattle.diagram.specs.Sound.{Within}
 use Rattle.diagram.proofs.ShapedLaws.{edge-sums}
 use Rattle.diagram.proofs.NumberLaws.{value-sums}
 use Rattle.clauses.specs.Variables.{valueVariable, referenceVariable, edgeVariable, lastEdgeVariable}
@@ -33,6 +34,25 @@ beside-first n f g u h = rw (lt-ltb u n h)
 
 beside-then : (n : ℕ) (f g : ℕ → Bool) (u : ℕ) → beside n f g (n + u) ≡ g u
 beside-then n f g u = rw (le-ltb (n + u) n (omega arith)) (ap g (omega arith))
+
+-- ---- each of them is a number from 1 to V
+
+module _ (e : Edition) (d : Lent) where
+  pub value-within : (i j : ℕ) → i < options d → j < domain d i → Within 1 (lastVariable e d) (valueVariable d i j)
+  unfolding firstHelper
+  value-within i j h l = (omega arith, omega (arith, value-sums d .room i (options d) h))
+
+  pub reference-within : (r : ℕ) → r ≤ nodes d + 1 → Within 1 (lastVariable e d) (referenceVariable d r)
+  unfolding firstHelper
+  reference-within r h = (omega arith, omega arith)
+
+  pub edge-within : (v j : ℕ) → v < nodes d → j < width d v → Within 1 (lastVariable e d) (edgeVariable d v j)
+  unfolding firstHelper
+  edge-within v j h l = (omega arith, omega (arith, edge-sums d .room v (nodes d) h))
+
+  pub helper-within : (i t : ℕ) → i < options d → t < e .helpers (domain d i) → Within 1 (lastVariable e d) (helperNumber (firstHelper e d i) t)
+  unfolding firstHelper
+  helper-within i t h l = (omega arith, omega (arith, sum-within (λ i. e .helpers (domain d i)) i (options d) t h l))
 
 -- ---- a setting made of what each value, reference, edge and helper is to be
 

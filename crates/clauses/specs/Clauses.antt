@@ -8,7 +8,7 @@ use Rattle.diagram.specs.Lent.{Lent, options, nodes, domain, width}
 use Rattle.diagram.specs.Numbers.{valueNumber, referenceNumber, firstValue, values}
 use Rattle.clauses.specs.Variables.{nodeVariable, edgeVariable, targetVariable, askedVariable, lastEdgeVariable}
 
--- the clause "one of k variables", where f gives their numbers
+-- the clause "at least one of k variables", where f gives their numbers
 abbrev pub oneOf : (ℕ → ℕ) → ℕ → Clause
 oneOf f k = upTo k (λ j. plain (f j) ∷ [])
 

@@ -12,19 +12,22 @@ module _ (d : Lent) where
   abbrev pub referenceVariable : ℕ → ℕ
   referenceVariable r = referenceNumber (values d) r
 
+  -- node v, which is reference v + 2
   abbrev pub nodeVariable : ℕ → ℕ
   nodeVariable v = referenceVariable (suc (suc v))
 
-  -- the edge of value j of node v, the reference that it leads to, and the value itself
+  -- the edge of value j of node v
   abbrev pub edgeVariable : ℕ → ℕ → ℕ
   edgeVariable v j = edgeNumber (values d) (nodes d) (firstEdge d v + j)
 
+  -- the reference that it leads to
   abbrev pub targetVariable : ℕ → ℕ → ℕ
   targetVariable v j = referenceVariable (target d v j)
 
+  -- the value j of the option that node v asks about
   abbrev pub askedVariable : ℕ → ℕ → ℕ
   askedVariable v j = valueVariable (asked d v) j
 
-  -- the last number of values, references and edges
+  -- the last edge's number; helpers come after it
   abbrev pub lastEdgeVariable : ℕ
   lastEdgeVariable = lastNumber (values d) (nodes d) (edges d)

@@ -19,8 +19,7 @@ use Rattle.diagram.proofs.AllowsLaws.{Ranked, allows-exactly}
 use Rattle.clauses.specs.Variables.{valueVariable}
 use Rattle.clauses.specs.Clauses.{Edition, helperNumber, firstHelper, lastVariable, optionClauses}
 use Rattle.clauses.specs.Editions.{ValueIs, ExactlyOne}
-use Rattle.clauses.proofs.VariableLaws.{settingOf, of-value, of-reference, of-edge, of-helper, every-variable}
-use Rattle.clauses.proofs.LiteralLaws.{value-within, reference-within, edge-within, helper-within}
+use Rattle.clauses.proofs.VariableLaws.{value-within, reference-within, edge-within, helper-within, settingOf, of-value, of-reference, of-edge, of-helper, every-variable}
 use Rattle.clauses.proofs.Common.{Common}
 use Rattle.clauses.proofs.Meant.{Stands, Chooses, Meant}
 use Rattle.demands.specs.Demand3.{SettingFor, SameTo, Gives, BuildLiteral, OneSetting, Meaning}

@@ -1,6 +1,6 @@
 -- Demand 2: `encode` writes exactly the list of edition 1; how many clauses, words and variables it has, which variable
--- has which number, and that its words are clauses over those variables. The list itself is `clauses` of the encoder's
--- Clauses. Assumes nothing.
+-- has which number, and that its words are clauses over those variables. The list itself is `clauses` of crate
+-- `clauses`. Assumes nothing.
 use mathlib.Core.Path.{_≡_}
 use mathlib.Core.Logic.{_⊎_}
 use mathlib.Core.Bool.{true}
