@@ -34,6 +34,12 @@ exactly-where i j e = ((λ p. eqb-true i j (sym e ∙ p)), (λ q. e ∙ eq-eqb i
 pub build-reached : (d : Lent) (x : ℕ → ℕ) (cs : List Clause) → Chooses d x (BuildLiteral d x) cs
 build-reached d x cs i h = given record { option = i; there = h; names = refl }
 
+-- a build for which the setting is one
+record BuildOf (d : Lent) (cs : List Clause) (σ : Setting) : Type 0 where
+  build : ℕ → ℕ
+  is-build : Build d build
+  for-it : SettingFor d cs build σ
+
 -- ---- a build's own setting, from what its references and edges are to be
 
 module _ (e : Edition) (one : ExactlyOne e) (d : Lent) (reference : ℕ → Bool) (edge : ℕ → ℕ → Bool) (x : ℕ → ℕ) where
@@ -65,7 +71,10 @@ module _ (e : Edition) (one : ExactlyOne e) (d : Lent) (reference : ℕ → Bool
 module _ (e : Edition) (one : ExactlyOne e) (d : Lent) (ok : Ranked d) (cs : List Clause) (has : Common e d cs) where
   -- ---- a satisfying setting: each option has one true value
 
-  one-true : (σ : Setting) → Satisfies σ cs → (i : ℕ) → i < options d → (j : ℕ) × ValueIs e (one .helper) (firstValue d i) (firstHelper e d i) (domain d i) σ j
+  abbrev OptionIs : Setting → ℕ → ℕ → Type 0
+  OptionIs σ i j = ValueIs e (one .helper) (firstValue d i) (firstHelper e d i) (domain d i) σ j
+
+  one-true : (σ : Setting) → Satisfies σ cs → (i : ℕ) → i < options d → (j : ℕ) × OptionIs σ i j
   one-true σ s i h = one .satisfied-exactly (firstValue d i) (firstHelper e d i) (domain d i) σ .0 (λ c m. s c (has .has-option i h c m))
 
   -- ---- a build and a setting for it
@@ -86,11 +95,17 @@ module _ (e : Edition) (one : ExactlyOne e) (d : Lent) (ok : Ranked d) (cs : Lis
         go (no n) = absurd (no-conflict σ (for-it .satisfies) literal-holds (build-conflict e one d ok cs has x b n))
 
     -- the one true value of an option is the build's
-    forced-option : (i : ℕ) → i < options d → ValueIs e (one .helper) (firstValue d i) (firstHelper e d i) (domain d i) σ (x i)
+    forced-option : (i : ℕ) → i < options d → OptionIs σ i (x i)
     forced-option i h =
         let t = one-true σ (for-it .satisfies) i h in
         let q : t .0 ≡ x i = sym (eqb-true (x i) (t .0) (sym (t .1 .value-is (x i) (b i h)) ∙ for-it .agrees i h)) in
-        subst (λ (j : ℕ). ValueIs e (one .helper) (firstValue d i) (firstHelper e d i) (domain d i) σ j) q (t .1)
+        subst (OptionIs σ i) q (t .1)
+
+  build-of : (σ : Setting) → Satisfies σ cs → BuildOf d cs σ
+  build-of σ s =
+      let t = choose (OptionIs σ) (options d) (one-true σ s) in
+      let b : Build d (t .0) = λ i h. t .1 i h .below in
+      record { build = t .0; is-build = b; for-it = record { agrees = λ i h. t .1 i h .value-is (t .0 i) (b i h) ∙ eq-eqb (t .0 i) (t .0 i) refl; satisfies = s } }
 
   -- ---- where an allowed build's references and edges are these
 
@@ -117,19 +132,6 @@ module _ (e : Edition) (one : ExactlyOne e) (d : Lent) (ok : Ranked d) (cs : Lis
           for-it = record { agrees = λ i h. of-value e d _ _ _ _ i (x i) h (b i h) ∙ eq-eqb (x i) (x i) refl; satisfies = own-satisfies x b a (own x) (λ n l k. refl) };
           no-other = λ σ τ p q n l k. setting-own x b a σ p n l k ∙ sym (setting-own x b a τ q n l k);
         }
-
-    -- ---- a satisfying setting and its build
-
-    pub record BuildOf (σ : Setting) : Type 0 where
-      pub build : ℕ → ℕ
-      pub is-build : Build d build
-      pub for-it : SettingFor d cs build σ
-
-    build-of : (σ : Setting) → Satisfies σ cs → BuildOf σ
-    build-of σ s =
-        let t = choose (λ i j. ValueIs e (one .helper) (firstValue d i) (firstHelper e d i) (domain d i) σ j) (options d) (one-true σ s) in
-        let b : Build d (t .0) = λ i h. t .1 i h .below in
-        record { build = t .0; is-build = b; for-it = record { agrees = λ i h. t .1 i h .value-is (t .0 i) (b i h) ∙ eq-eqb (t .0 i) (t .0 i) refl; satisfies = s } }
 
     pub meaning-of : Meaning d (lastVariable e d) cs (Build d) (λ x. x)
     meaning-of =
