@@ -30,8 +30,11 @@ AllOut b k l = (j : ℕ) × (j < k) × (l ≡ negated (valueNumber b j))
 pub record ExactlyOne (e : Edition) : Type 0 where
   -- what helper t is where value j of k is the true one
   pub helper : ℕ → ℕ → ℕ → Bool
+  -- from the negations of all values propagation reaches a conflict
   pub conflicts : (b h k : ℕ) → Conflict (AllOut b k) (e .option b h k)
+  -- from value j it reaches the negation of each other value
   pub rules-out : (b h k i j : ℕ) → i < k → j < k → (i ≡ j → ⊥) → Reached (OneIn b j) (e .option b h k) (negated (valueNumber b i))
+  -- a setting satisfies the clauses exactly where some value is the one true value
   pub satisfied-exactly : (b h k : ℕ) (σ : Setting) → Satisfies σ (e .option b h k) ↔ ((j : ℕ) × ValueIs e helper b h k σ j)
 
 -- ---- variables

@@ -15,7 +15,7 @@ use Rattle.lists.specs.First.{first}
 use Rattle.lists.proofs.UptoLaws.{list-same}
 use Rattle.lists.proofs.EveryLaws.{every-more, each-every}
 use Rattle.refusal.specs.Rules.{chain}
-use Rattle.cnf.specs.Clause.{Clause, plain, Setting, Reached, unit, Conflict}
+use Rattle.cnf.specs.Clause.{Clause, Setting, Reached, unit, Conflict}
 use Rattle.diagram.specs.Lent.{firstEdge, step, walk, end, chosen, Build, RootAllows}
 use Rattle.diagram.specs.Numbers.{firstValue}
 use Rattle.diagram.specs.Sound.{Sound}
@@ -31,9 +31,9 @@ use Rattle.clauses.proofs.Common.{Common, clauses-common}
 use Rattle.clauses.proofs.Decided.{arrives, taken}
 use Rattle.clauses.proofs.Satisfied.{clauses-meant}
 use Rattle.demands.specs.HalfFinished.{OrderLiteral, FitsOrder}
-use Rattle.demands.specs.Demand3.{SettingFor, SameTo, OneSetting, NoSetting, Meaning}
+use Rattle.demands.specs.Demand3.{SettingFor, SameTo, BuildLiteral, OneSetting, NoSetting, Meaning}
 use Rattle.demands.specs.Samples.{s1, s2, s3}
-use Rattle.demands.specs.Picture.{s3Clauses, build01, build11, setting01, Step, Chain, chain11, first0Out, second0Out, secondOut, Picture}
+use Rattle.demands.specs.Picture.{s3Clauses, build01, build11, setting01, Step, Chain, given11, chain11, first0Out, second0Out, secondOut, Picture}
 use Rattle.demands.proofs.Meaning.{ownSetting, setting-own}
 use Rattle.demands.proofs.Demand3.{edition1-demand3}
 
@@ -110,10 +110,14 @@ chain-conflict {Given} cs known (s ∷ rest) k r c = chain-conflict cs (s .reach
     reached : Reached Given cs (s .reaches)
     reached = unit (getD cs (s .by) []) (entry-in [] cs (s .by) (c .0)) (c .1) (λ m mm ne. ⊎-elim (λ (q : m ≡ s .reaches). absurd (ne q)) (r (negℤ m)) (each-every (λ m. (m ≡ s .reaches) ⊎ List·Memᴰ (negℤ m) known) (getD cs (s .by) []) (c .2) m mm))
 
+the-literals : Each (BuildLiteral s3 build11) given11
+unfolding sumTo firstValue
+the-literals = (record { option = 0; there = omega arith; names = refl }, (record { option = 1; there = omega arith; names = refl }, tt))
+
 at-once : {A : Type 0} {a : A} {l : List A} → List·Memᴰ a (a ∷ l)
 at-once = List·Memᴰ·head refl
 
-the-chain : Chain s3Clauses (plain 2 ∷ plain 4 ∷ []) chain11 6
+the-chain : Chain s3Clauses given11 chain11 6
 the-chain = (
   omega arith,
   at-once,
@@ -169,6 +173,7 @@ picture =
       has-setting = subst (λ (cs : List Clause). OneSetting s3 12 cs build01) the-clauses one01;
       the-setting = subst (λ (cs : List Clause). (σ : Setting) → SettingFor s3 cs build01 σ → upTo 12 (λ k. σ (suc k) ∷ []) ≡ setting01) the-clauses setting-of;
       has-none = subst (λ (cs : List Clause). NoSetting s3 cs build11) the-clauses (meaning3 .not-allowed (1 ∷ 1 ∷ []) fits11 not-allows11);
+      the-literals = the-literals;
       the-chain = the-chain;
       first-conflicts = subst (λ (cs : List Clause). Conflict (OrderLiteral s3 first0Out) cs) the-clauses (edition1-demand3 .with-functions s3 sound3 .half-finished .none-fits first0Out first-none);
       second-open = subst (λ (cs : List Clause). Conflict (OrderLiteral s3 second0Out) cs → ⊥) the-clauses (meaning3 .half-finished .one-fits second0Out (0 ∷ 1 ∷ []) fits01 second-fits allows01);

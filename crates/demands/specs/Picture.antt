@@ -17,7 +17,7 @@ use Rattle.diagram.specs.Lent.{chosen}
 use Rattle.diagram.specs.Sound.{Sound}
 use Rattle.clauses.specs.Clauses.{edition1, optionClauses, clauses}
 use Rattle.demands.specs.HalfFinished.{Order, OrderLiteral}
-use Rattle.demands.specs.Demand3.{SettingFor, OneSetting, NoSetting}
+use Rattle.demands.specs.Demand3.{SettingFor, BuildLiteral, OneSetting, NoSetting}
 use Rattle.demands.specs.Samples.{s3}
 
 abbrev pub s3Clauses : List Clause
@@ -84,7 +84,11 @@ abbrev pub Chain : List Clause → List ℤ → List Step → ℕ → Type 0
 Chain cs known [] k = (k < length cs) × Each (λ m. List·Memᴰ (negℤ m) known) (getD cs k [])
 Chain cs known (s ∷ rest) k = (s .by < length cs) × List·Memᴰ (s .reaches) (getD cs (s .by) []) × Each (λ m. (m ≡ s .reaches) ⊎ List·Memᴰ (negℤ m) known) (getD cs (s .by) []) × Chain cs (s .reaches ∷ known) rest k
 
--- from (1,1): the first option's other value is out, by the pair; with it the root's first edge, by T4; F is out, by its
+-- the literals of (1,1)
+abbrev pub given11 : List ℤ
+given11 = plain 2 ∷ plain 4 ∷ []
+
+-- from them: the first option's other value is out, by the pair; with it the root's first edge, by T4; F is out, by its
 -- unit; with it the root's second edge, by T3; so the root is out, by T1
 abbrev pub chain11 : List Step
 chain11 =
@@ -113,7 +117,8 @@ pub record Picture : Type 0 where
   pub the-setting : (σ : Setting) → SettingFor s3 s3Clauses build01 σ → upTo 12 (λ k. σ (suc k) ∷ []) ≡ setting01
   -- (1,1) has none, and this chain from its two literals ends in a conflict with the clause "root"
   pub has-none : NoSetting s3 s3Clauses build11
-  pub the-chain : Chain s3Clauses (plain 2 ∷ plain 4 ∷ []) chain11 6
+  pub the-literals : Each (BuildLiteral s3 build11) given11
+  pub the-chain : Chain s3Clauses given11 chain11 6
   -- the first order conflicts, the second does not, and the third in the second option's own clauses
   pub first-conflicts : Conflict (OrderLiteral s3 first0Out) s3Clauses
   pub second-open : Conflict (OrderLiteral s3 second0Out) s3Clauses → ⊥
