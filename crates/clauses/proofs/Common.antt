@@ -1,7 +1,7 @@
--- What the encodings of a diagram have in common: the option clauses, T, not F, root, and T1 to T4; and how unit
+-- What our list and the encodings by paths have in common: the option clauses, T, not F, root, and T1 to T4; and how unit
 -- propagation goes through them. T5 has no part in it. Assumes nothing.
 use mathlib.Core.Path.{_≡_, refl, sym, subst}
-use mathlib.Core.Logic.{_⊎_, inl, ⊎-elim}
+use mathlib.Core.Logic.{inl, ⊎-elim}
 use mathlib.Core.List.{List, [], _∷_, _++_, List·Memᴰ, List·Memᴰ·head, List·Memᴰ·tail, List·Memᴰ·cases-cons, List·Memᴰ·eq-of-singleton, Memᴰ·append-left, Memᴰ·append-right}
 use Prim.Native.Nat.{ℕ, _<_}
 use lib.IntN.{ℤ, negℤ}
@@ -49,6 +49,10 @@ module _ (e : Edition) (d : Lent) where
 
 -- ---- propagation through them
 
+-- the value of each option of a build is reached
+abbrev pub Chooses : Lent → (ℕ → ℕ) → (ℤ → Type 0) → List Clause → Type 0
+Chooses d x Given cs = (i : ℕ) → i < options d → Reached Given cs (plain (valueVariable d i (x i)))
+
 module _ {e : Edition} {d : Lent} {cs : List Clause} (has : Common e d cs) {Given : ℤ → Type 0} where
   pub true-reached : Reached Given cs (plain (referenceVariable d 1))
   true-reached = unit-each (plain (referenceVariable d 1) ∷ []) (has .has-units _ (List·Memᴰ·head refl)) (List·Memᴰ·head refl) (inl refl, tt)
@@ -66,7 +70,7 @@ module _ {e : Edition} {d : Lent} {cs : List Clause} (has : Common e d cs) {Give
       }
 
   -- a build's values rule out the others
-  pub value-out : ExactlyOne e → (x : ℕ → ℕ) → Build d x → ((i : ℕ) → i < options d → Reached Given cs (plain (valueVariable d i (x i)))) → (i j : ℕ) → i < options d → j < domain d i → (j ≡ x i → ⊥) → Reached Given cs (negated (valueVariable d i j))
+  pub value-out : ExactlyOne e → (x : ℕ → ℕ) → Build d x → Chooses d x Given cs → (i j : ℕ) → i < options d → j < domain d i → (j ≡ x i → ⊥) → Reached Given cs (negated (valueVariable d i j))
   value-out one x b chosen i j h hj n = rules-out-in one (firstValue d i) (firstHelper e d i) (domain d i) (has .has-option i h) j (x i) hj (b i h) n (chosen i h)
 
   module _ (v : ℕ) (hv : v < nodes d) where

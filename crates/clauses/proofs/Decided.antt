@@ -1,7 +1,7 @@
 -- From a whole build's values unit propagation decides every reference and every edge, either way: so a build has no two
 -- settings. This is what T2 and T5 are for. Assumes nothing.
 use mathlib.Core.Path.{_≡_, refl, ap, subst}
-use mathlib.Core.Logic.{_⊎_, inl, inr, ⊎-elim}
+use mathlib.Core.Logic.{inl, inr, ⊎-elim}
 use mathlib.Core.Bool.{Bool, true, false, _&&_}
 use mathlib.Core.List.{List, List·Memᴰ, List·Memᴰ·head, List·Memᴰ·tail}
 use Prim.Native.Nat.{ℕ, suc, _+_, _<_}
@@ -16,8 +16,7 @@ use Rattle.diagram.proofs.AllowsLaws.{Later, Ranked, asked-option, every-refere
 use Rattle.clauses.specs.Variables.{referenceVariable, nodeVariable, edgeVariable, targetVariable, askedVariable}
 use Rattle.clauses.specs.Clauses.{Edition, t5, clauses}
 use Rattle.clauses.specs.Editions.{ExactlyOne}
-use Rattle.clauses.proofs.Common.{Common, in-edge, true-reached, false-out, value-out, t1-step, t2-step, t3-step, t4-step}
-use Rattle.clauses.proofs.Meant.{Chooses}
+use Rattle.clauses.proofs.Common.{Common, Chooses, in-edge, true-reached, false-out, value-out, t1-step, t2-step, t3-step, t4-step}
 
 -- ---- what a reference and an edge stand for
 

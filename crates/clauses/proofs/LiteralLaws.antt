@@ -20,7 +20,7 @@ use Rattle.diagram.specs.Numbers.{firstValue, values}
 use Rattle.diagram.specs.Sound.{Within, Sound}
 use Rattle.diagram.proofs.ShapedLaws.{asked-in}
 use Rattle.diagram.proofs.NumberLaws.{target-most}
-use Rattle.clauses.specs.Variables.{referenceVariable, edgeVariable}
+use Rattle.clauses.specs.Variables.{referenceVariable, nodeVariable, edgeVariable}
 use Rattle.clauses.specs.Clauses.{Edition, units, edgeClauses, nodeClauses, firstHelper, lastVariable, optionClauses, clauses}
 use Rattle.clauses.specs.Editions.{Literals, Own, own-value, own-helper, OwnVariables}
 use Rattle.clauses.proofs.VariableLaws.{value-within, reference-within, edge-within, helper-within}
@@ -61,17 +61,17 @@ module _ (e : Edition) (d : Lent) where
             every-more All (every-more (λ l. Variable (natAbs l)) node (one-of-literals (λ j. edgeVariable d v j) (width d v) Variable (λ j l. edge-within e d v j h l)))
             (every-upTo All (width d v) (edgeClauses d v) of-edge)
           where
-            node : Variable (referenceVariable d (suc (suc v)))
+            node : Variable (nodeVariable d v)
             node = reference-within e d (suc (suc v)) (omega arith)
 
             of-edge : (j : ℕ) → j < width d v → Every All (edgeClauses d v j)
             of-edge j l =
                 let edge = edge-within e d v j h l in
-                let target = reference-within e d (target d v j) (target-most d s v j h l) in
+                let target = reference-within e d (target d v j) (omega (arith, target-most d s v j h l)) in
                 let value = value-within e d (asked d v) j (asked-in d (s .shaped) v h) l in
                 each-every All (edgeClauses d v j) (each _ (edge, (node, tt)), (each _ (edge, (target, tt)), (each _ (edge, (value, tt)), (each _ (target, (value, (edge, tt))), tt))))
 
-    pub no-zeros : NoZeros (clauses e d)
+    no-zeros : NoZeros (clauses e d)
     unfolding isZero
     no-zeros c m l n = go l (literal-within c m l n .0)
       where

@@ -1,16 +1,16 @@
 -- How many clauses and words a diagram has, by formulas, in any edition whose option clauses are counted. Assumes nothing.
 use mathlib.Core.Path.{_≡_}
 use mathlib.Core.List.{List, _++_}
-use Prim.Native.Nat.{ℕ, suc, _+_, _*_}
+use Prim.Native.Nat.{ℕ, _+_, _*_}
 use native.Mathlib.Omega.{arith}
 use lib.ListN.{length, length-append}
 use Rattle.lists.specs.Upto.{sumTo, upTo}
 use Rattle.lists.proofs.UptoLaws.{sum-same, sum-const, sum-linear, list-length, list-singles}
 use Rattle.cnf.specs.Clause.{Clause, plain, words}
 use Rattle.cnf.proofs.WordsLaws.{length-more, length-both, length-upTo}
-use Rattle.diagram.specs.Lent.{Lent, options, nodes, domain, asked, width, target, firstEdge, edges}
+use Rattle.diagram.specs.Lent.{Lent, options, nodes, domain, width, firstEdge, edges}
 use Rattle.diagram.specs.Numbers.{firstValue, values}
-use Rattle.clauses.specs.Variables.{valueVariable, referenceVariable, edgeVariable}
+use Rattle.clauses.specs.Variables.{nodeVariable, edgeVariable, targetVariable, askedVariable}
 use Rattle.clauses.specs.Clauses.{Edition, units, t2to5, t1, t1to5, nodeClauses, firstHelper, optionClauses, clauses}
 use Rattle.clauses.specs.Editions.{OptionCounts}
 
@@ -39,7 +39,7 @@ module _ (e : Edition) {ofClauses ofWords : ℕ → ℕ} (n : OptionCounts e ofC
         list-length (optionClauses e d) (options d),
         sum-same (λ i. length (optionClauses e d i)) (λ i. ofClauses (domain d i)) (options d) (λ i h. n .clauses-are (firstValue d i) (firstHelper e d i) (domain d i)),
         list-length (nodeClauses d) (nodes d),
-        sum-same (λ v. length (nodeClauses d v)) (λ v. 1 + 4 * width d v) (nodes d) (λ v h. node-clauses (referenceVariable d (suc (suc v))) (edgeVariable d v) (edgeVariable d v) (λ j. referenceVariable d (target d v j)) (valueVariable d (asked d v)) (width d v)),
+        sum-same (λ v. length (nodeClauses d v)) (λ v. 1 + 4 * width d v) (nodes d) (λ v h. node-clauses (nodeVariable d v) (edgeVariable d v) (edgeVariable d v) (targetVariable d v) (askedVariable d v) (width d v)),
         sum-linear 1 4 (width d) (nodes d),
       )
 
@@ -53,6 +53,6 @@ module _ (e : Edition) {ofClauses ofWords : ℕ → ℕ} (n : OptionCounts e ofC
         length-upTo (options d) (optionClauses e d),
         sum-same (λ i. length (words (optionClauses e d i))) (λ i. ofWords (domain d i)) (options d) (λ i h. n .words-are (firstValue d i) (firstHelper e d i) (domain d i)),
         length-upTo (nodes d) (nodeClauses d),
-        sum-same (λ v. length (words (nodeClauses d v))) (λ v. 2 + 14 * width d v) (nodes d) (λ v h. node-words (referenceVariable d (suc (suc v))) (edgeVariable d v) (edgeVariable d v) (λ j. referenceVariable d (target d v j)) (valueVariable d (asked d v)) (width d v)),
+        sum-same (λ v. length (words (nodeClauses d v))) (λ v. 2 + 14 * width d v) (nodes d) (λ v h. node-words (nodeVariable d v) (edgeVariable d v) (edgeVariable d v) (targetVariable d v) (askedVariable d v) (width d v)),
         sum-linear 2 14 (width d) (nodes d),
       )

@@ -2,7 +2,7 @@
 -- can be made of what each of them is to be, and what holds of all of them holds of every number. Assumes nothing.
 use mathlib.Core.Path.{_≡_, sym, _∙_, ap, subst}
 use mathlib.Core.Bool.{Bool, false, cond}
-use mathlib.Core.Logic.{_⊎_, ⊎-elim}
+use mathlib.Core.Logic.{⊎-elim}
 use Prim.Native.Nat.{ℕ, zero, suc, _+_, _-_, _≤_, _<_}
 use native.Mathlib.Omega.{arith}
 use lib.Dec.{ltb, leb}
@@ -42,7 +42,7 @@ module _ (e : Edition) (d : Lent) where
   unfolding firstHelper
   value-within i j h l = (omega arith, omega (arith, value-sums d .room i (options d) h))
 
-  pub reference-within : (r : ℕ) → r ≤ nodes d + 1 → Within 1 (lastVariable e d) (referenceVariable d r)
+  pub reference-within : (r : ℕ) → r < nodes d + 2 → Within 1 (lastVariable e d) (referenceVariable d r)
   unfolding firstHelper
   reference-within r h = (omega arith, omega arith)
 

@@ -43,6 +43,7 @@ pub record Edition : Type 0 where
   pub helpers : ℕ → ℕ
   pub option : ℕ → ℕ → ℕ → List Clause
 
+-- helper t of an option, where h variables stand before its helpers
 abbrev pub helperNumber : ℕ → ℕ → ℕ
 helperNumber h t = suc (h + t)
 

@@ -1,2 +1,2 @@
-// The clauses of a diagram (specs/) and what they mean (proofs/): definitions and theorems alone, for the code that writes
-// the clauses and for the demands. Assumes nothing.
+// The variables and the clauses of a diagram (specs/), and laws of the clauses (proofs/): definitions and theorems alone, for
+// the code that writes the clauses and for the demands. Assumes nothing.

@@ -81,8 +81,5 @@ module _ {Given Given′ : ℤ → Type 0} {cs ds : List Clause} (from : (l : �
 
 -- from more given literals and more clauses, what was reached still is
 module _ {Given Given′ : ℤ → Type 0} {cs ds : List Clause} (has : (l : ℤ) → Given l → Given′ l) (among : Among cs ds) where
-  pub reached-more : {l : ℤ} → Reached Given cs l → Reached Given′ ds l
-  reached-more = reached-through (λ l g. given (has l g)) among
-
   pub conflict-more : Conflict Given cs → Conflict Given′ ds
   conflict-more = conflict-through (λ l g. given (has l g)) among

@@ -1,5 +1,5 @@
--- A build as a list of n values, the form in which the library takes it: demand 3 with builds as functions gives demand 3
--- with builds as lists. Assumes nothing.
+-- A build as a list of n values, the form in which the library takes it: what the clauses mean with builds as functions
+-- gives what they mean with builds as lists. Assumes nothing.
 use mathlib.Core.Path.{_≡_, sym, _∙_, ap}
 use mathlib.Core.List.{List, [], _∷_}
 use Prim.Native.Nat.{ℕ, _<_}

@@ -1,8 +1,8 @@
--- Demand 3 of every list of clauses that has the common part and, for an allowed build, what is to be shown beyond it.
--- Assumes nothing.
+-- What the clauses mean, for every list of clauses that has the common part and, for an allowed build, what is to be shown
+-- beyond it. Assumes nothing.
 use mathlib.Core.Path.{_≡_, refl, sym, _∙_, ap, subst}
 use mathlib.Core.Logic.{_↔_}
-use mathlib.Core.Bool.{Bool, true, false, not, true≢false}
+use mathlib.Core.Bool.{Bool, true, not, true≢false}
 use mathlib.Core.List.{List}
 use Prim.Native.Nat.{ℕ, suc, _<_}
 use native.Mathlib.Decide.{ℕ-discrete}
@@ -20,8 +20,8 @@ use Rattle.clauses.specs.Variables.{valueVariable}
 use Rattle.clauses.specs.Clauses.{Edition, helperNumber, firstHelper, lastVariable, optionClauses}
 use Rattle.clauses.specs.Editions.{ValueIs, ExactlyOne}
 use Rattle.clauses.proofs.VariableLaws.{value-within, reference-within, edge-within, helper-within, settingOf, of-value, of-reference, of-edge, of-helper, every-variable}
-use Rattle.clauses.proofs.Common.{Common}
-use Rattle.clauses.proofs.Meant.{Stands, Chooses, Meant}
+use Rattle.clauses.proofs.Common.{Common, Chooses}
+use Rattle.clauses.proofs.Meant.{Stands, Meant}
 use Rattle.demands.specs.Demand3.{SettingFor, SameTo, Gives, BuildLiteral, OneSetting, Meaning}
 use Rattle.demands.specs.HalfFinished.{Order, OrderLiteral, ruled-in, ruled-out, FitsOrder}
 use Rattle.demands.proofs.Orders.{order-conflict, build-conflict}
@@ -31,7 +31,7 @@ exactly-where : {b : Bool} (i j : ℕ) → b ≡ eqb i j → (b ≡ true) ↔ (i
 exactly-where i j e = ((λ p. eqb-true i j (sym e ∙ p)), (λ q. e ∙ eq-eqb i j q))
 
 -- the build's literals are reached
-pub build-reached : (d : Lent) (x : ℕ → ℕ) (cs : List Clause) → Chooses d x (BuildLiteral d x) cs
+build-reached : (d : Lent) (x : ℕ → ℕ) (cs : List Clause) → Chooses d x (BuildLiteral d x) cs
 build-reached d x cs i h = given record { option = i; there = h; names = refl }
 
 -- a build for which the setting is one

@@ -2,20 +2,20 @@
 -- Assumes nothing.
 use mathlib.Core.Path.{_≡_, refl, sym, _∙_, ap, subst}
 use mathlib.Core.Logic.{_⊎_, inl, inr, ⊎-elim}
-use mathlib.Core.Bool.{Bool, true, false, _&&_, false≢true}
+use mathlib.Core.Bool.{Bool, false, _&&_, false≢true}
 use mathlib.Core.List.{List, [], _∷_, List·Memᴰ, List·Memᴰ·head, List·Memᴰ·tail}
 use Prim.Native.Nat.{ℕ, zero, suc, _<_}
 use native.Mathlib.Omega.{arith}
 use lib.Dec.{eqb}
 use lib.IntN.{ℤ, negℤ}
-use lib.ListN.{length, getD}
+use lib.ListN.{getD}
 use Rattle.lists.specs.Upto.{sumTo, upTo, lastTo}
 use Rattle.lists.specs.Every.{Every, Each}
 use Rattle.lists.specs.First.{first}
 use Rattle.lists.proofs.UptoLaws.{list-same}
-use Rattle.lists.proofs.EveryLaws.{every-more, each-every}
+use Rattle.lists.proofs.EveryLaws.{every-more, each-every, entry-in}
 use Rattle.refusal.specs.Rules.{chain}
-use Rattle.cnf.specs.Clause.{Clause, Setting, Reached, unit, Conflict}
+use Rattle.cnf.specs.Clause.{Clause, Setting, Satisfies, Reached, given, unit, Conflict}
 use Rattle.diagram.specs.Lent.{firstEdge, step, walk, end, chosen, Build, RootAllows}
 use Rattle.diagram.specs.Numbers.{firstValue}
 use Rattle.diagram.specs.Sound.{Sound}
@@ -31,9 +31,9 @@ use Rattle.clauses.proofs.Common.{Common, clauses-common}
 use Rattle.clauses.proofs.Decided.{arrives, taken}
 use Rattle.clauses.proofs.Satisfied.{clauses-meant}
 use Rattle.demands.specs.HalfFinished.{OrderLiteral, FitsOrder}
-use Rattle.demands.specs.Demand3.{SettingFor, SameTo, BuildLiteral, OneSetting, NoSetting, Meaning}
+use Rattle.demands.specs.Demand3.{Agrees, SettingFor, SameTo, Gives, BuildLiteral, OneSetting, NoSetting, Meaning}
 use Rattle.demands.specs.Samples.{s1, s2, s3}
-use Rattle.demands.specs.Picture.{s3Clauses, build01, build11, setting01, Step, Chain, given11, chain11, first0Out, second0Out, secondOut, Picture}
+use Rattle.demands.specs.Picture.{s3Clauses, build01, build11, setting01, Reach, Propagates, given11, reached11, first0Out, second0Out, secondOut, Picture}
 use Rattle.demands.proofs.Meaning.{ownSetting, setting-own}
 use Rattle.demands.proofs.Demand3.{edition1-demand3}
 
@@ -75,7 +75,19 @@ not-allows11 : RootAllows s3 build11 → ⊥
 unfolding sumTo firstEdge step walk
 not-allows11 a = absurd (let q : _≡_ {A = ℕ} 0 1 = allows-exactly s3 ok3 build11 (fits11 .in-domain) .1 a in omega arith)
 
--- ---- the picture
+-- no other build is allowed
+only01 : (x : ℕ → ℕ) → Build s3 x → RootAllows s3 x → (x 0 ≡ 0) × (x 1 ≡ 1)
+unfolding sumTo firstEdge step walk
+only01 x b a = go (x 0) (x 1) refl refl (b 0 (omega arith)) (b 1 (omega arith)) (allows-exactly s3 ok3 x b .1 a)
+  where
+    go : (i j : ℕ) → x 0 ≡ i → x 1 ≡ j → i < 2 → j < 2 → end s3 x 2 ≡ 1 → (x 0 ≡ 0) × (x 1 ≡ 1)
+    go zero zero p q h k w = absurd (let z : _≡_ {A = ℕ} 0 1 = rw (p, q) at w in omega arith)
+    go zero (suc zero) p q h k w = (p, q)
+    go zero (suc (suc j)) p q h k w = absurd (omega arith)
+    go (suc zero) j p q h k w = absurd (let z : _≡_ {A = ℕ} 0 1 = rw p at w in omega arith)
+    go (suc (suc i)) j p q h k w = absurd (omega arith)
+
+-- ---- the setting of (0,1)
 
 abbrev own : Setting
 own = ownSetting edition1 edition1-one s3 (arrives s3 build01) (taken s3 build01) build01
@@ -95,20 +107,24 @@ setting-of σ p = list-same (λ k. σ (suc k) ∷ []) (λ k. own (suc k) ∷ [])
     same : SameTo 12 σ own
     same = setting-own edition1 edition1-one s3 ok3 (clauses edition1 s3) has (arrives s3) (taken s3) (clauses-meant edition1-one ok3) build01 (fits01 .in-domain) (allows-exactly s3 ok3 build01 (fits01 .in-domain) .1 allows01) σ p
 
--- ---- the chain
-
-entry-in : {A : Type 0} (a : A) (l : List A) (k : ℕ) → k < length l → List·Memᴰ (getD l k a) l
-entry-in a [] k h = absurd (omega arith)
-entry-in a (x ∷ l) zero h = List·Memᴰ·head refl
-entry-in a (x ∷ l) (suc k) h = List·Memᴰ·tail (entry-in a l k (omega arith))
-
--- a chain from literals that are reached is a propagation that ends in a conflict
-pub chain-conflict : {Given : ℤ → Type 0} (cs : List Clause) (known : List ℤ) (steps : List Step) (k : ℕ) → Every (Reached Given cs) known → Chain cs known steps k → Conflict Given cs
-chain-conflict {Given} cs known [] k r c = record { clause = getD cs k []; among = entry-in [] cs k (c .0); against = λ m mm. r (negℤ m) (each-every (λ m. List·Memᴰ (negℤ m) known) (getD cs k []) (c .1) m mm) }
-chain-conflict {Given} cs known (s ∷ rest) k r c = chain-conflict cs (s .reaches ∷ known) rest k (every-more (Reached Given cs) reached r) (c .3)
+-- and every satisfying setting is one for (0,1)
+for01 : (σ : Setting) → Satisfies σ (clauses edition1 s3) → SettingFor s3 (clauses edition1 s3) build01 σ
+for01 σ s = let t = edition1-demand3 .with-functions s3 sound3 .every-satisfying σ s in record { agrees = agrees (t .0) (t .2) (only01 (t .0) (t .1) (t .3)); satisfies = s }
   where
-    reached : Reached Given cs (s .reaches)
-    reached = unit (getD cs (s .by) []) (entry-in [] cs (s .by) (c .0)) (c .1) (λ m mm ne. ⊎-elim (λ (q : m ≡ s .reaches). absurd (ne q)) (r (negℤ m)) (each-every (λ m. (m ≡ s .reaches) ⊎ List·Memᴰ (negℤ m) known) (getD cs (s .by) []) (c .2) m mm))
+    agrees : (x : ℕ → ℕ) → Gives s3 x σ → (x 0 ≡ 0) × (x 1 ≡ 1) → Agrees s3 build01 σ
+    agrees x g o zero h = g .exactly 0 0 (omega arith) (omega arith) .1 (sym (o .0))
+    agrees x g o (suc zero) h = g .exactly 1 1 (omega arith) (omega arith) .1 (sym (o .1))
+    agrees x g o (suc (suc i)) h = absurd (omega arith)
+
+-- ---- from (1,1)
+
+-- what propagates so, from literals that are reached, ends in a conflict
+propagates-conflict : {Given : ℤ → Type 0} (cs : List Clause) (known : List ℤ) (rs : List Reach) (k : ℕ) → Every (Reached Given cs) known → Propagates cs known rs k → Conflict Given cs
+propagates-conflict {Given} cs known [] k f p = record { clause = getD cs k []; among = entry-in [] cs k (p .0); against = λ m mm. f (negℤ m) (each-every (λ m. List·Memᴰ (negℤ m) known) (getD cs k []) (p .1) m mm) }
+propagates-conflict {Given} cs known (r ∷ rs) k f p = propagates-conflict cs (r .literal ∷ known) rs k (every-more (Reached Given cs) reached f) (p .3)
+  where
+    reached : Reached Given cs (r .literal)
+    reached = unit (getD cs (r .by) []) (entry-in [] cs (r .by) (p .0)) (p .1) (λ m mm ne. ⊎-elim (λ (q : m ≡ r .literal). absurd (ne q)) (f (negℤ m)) (each-every (λ m. (m ≡ r .literal) ⊎ List·Memᴰ (negℤ m) known) (getD cs (r .by) []) (p .2) m mm))
 
 the-literals : Each (BuildLiteral s3 build11) given11
 unfolding sumTo firstValue
@@ -117,8 +133,8 @@ the-literals = (record { option = 0; there = omega arith; names = refl }, (recor
 at-once : {A : Type 0} {a : A} {l : List A} → List·Memᴰ a (a ∷ l)
 at-once = List·Memᴰ·head refl
 
-the-chain : Chain s3Clauses given11 chain11 6
-the-chain = (
+the-way : Propagates s3Clauses given11 reached11 6
+the-way = (
   omega arith,
   at-once,
   (inl refl, (inr at-once, tt)),
@@ -145,17 +161,18 @@ the-chain = (
   ),
 )
 
+-- the same conflict as the theorem's, gone to by hand
+none11 : NoSetting s3 s3Clauses build11
+none11 =
+    record {
+      none = subst (λ (cs : List Clause). NoSetting s3 cs build11) the-clauses (meaning3 .not-allowed (1 ∷ 1 ∷ []) fits11 not-allows11) .none;
+      conflict = propagates-conflict s3Clauses given11 reached11 6 (λ l m. given (each-every (BuildLiteral s3 build11) given11 the-literals l m)) the-way;
+    }
+
 -- ---- the orders
 
--- with value 0 of the at-once option ruled out no allowed build fits
 first-none : (x : ℕ → ℕ) → Build s3 x → FitsOrder s3 first0Out x → RootAllows s3 x → ⊥
-unfolding sumTo firstEdge step walk
-first-none x b f a = go (x 0) (b 0 (omega arith)) (f .keeps-out 0 (omega arith)) refl
-  where
-    go : (j : ℕ) → j < 2 → eqb 0 0 && eqb j 0 ≡ false → x 0 ≡ j → ⊥
-    go zero h p q = false≢true (sym p)
-    go (suc zero) h p q = absurd (let w : end s3 x 2 ≡ 1 = allows-exactly s3 ok3 x b .1 a in let z : _≡_ {A = ℕ} 0 1 = rw q at w in omega arith)
-    go (suc (suc j)) h p q = absurd (omega arith)
+first-none x b f a = false≢true (sym (f .keeps-out 0 (omega arith)) ∙ ap (λ (j : ℕ). eqb 0 0 && eqb j 0) (only01 x b a .0))
 
 second-fits : FitsOrder s3 second0Out build01
 second-fits = record { keeps-in = λ i j h l p. absurd (false≢true p); keeps-out = out }
@@ -165,17 +182,19 @@ second-fits = record { keeps-in = λ i j h l p. absurd (false≢true p); keeps-o
     out (suc zero) h = refl
     out (suc (suc i)) h = absurd (omega arith)
 
+-- ---- all of it
+
 pub picture : Picture
 picture =
     record {
       sound = sound3;
       the-clauses = the-clauses;
       has-setting = subst (λ (cs : List Clause). OneSetting s3 12 cs build01) the-clauses one01;
-      the-setting = subst (λ (cs : List Clause). (σ : Setting) → SettingFor s3 cs build01 σ → upTo 12 (λ k. σ (suc k) ∷ []) ≡ setting01) the-clauses setting-of;
-      has-none = subst (λ (cs : List Clause). NoSetting s3 cs build11) the-clauses (meaning3 .not-allowed (1 ∷ 1 ∷ []) fits11 not-allows11);
+      the-setting = subst (λ (cs : List Clause). (σ : Setting) → Satisfies σ cs → upTo 12 (λ k. σ (suc k) ∷ []) ≡ setting01) the-clauses (λ σ s. setting-of σ (for01 σ s));
+      has-none = none11;
       the-literals = the-literals;
-      the-chain = the-chain;
+      the-way = the-way;
       first-conflicts = subst (λ (cs : List Clause). Conflict (OrderLiteral s3 first0Out) cs) the-clauses (edition1-demand3 .with-functions s3 sound3 .half-finished .none-fits first0Out first-none);
       second-open = subst (λ (cs : List Clause). Conflict (OrderLiteral s3 second0Out) cs → ⊥) the-clauses (meaning3 .half-finished .one-fits second0Out (0 ∷ 1 ∷ []) fits01 second-fits allows01);
-      second-conflicts = edition1-demand3 .option-out s3 secondOut 1 (omega arith) (λ j h. refl);
+      third-conflicts = edition1-demand3 .option-out s3 secondOut 1 (omega arith) (λ j h. refl);
     }

@@ -1,5 +1,5 @@
--- Demand 2: `encode` writes exactly the list of edition 1; how many clauses, words and variables it has, which variable
--- has which number, and that its words are clauses over those variables. The list itself is `clauses` of crate
+-- Demand 2: `encode` writes exactly the list of its edition, and the words are clauses over the variables; which variable
+-- has which number; and in edition 1 how many clauses, words and variables there are. The list itself is `clauses` of crate
 -- `clauses`. Assumes nothing.
 use mathlib.Core.Path.{_≡_}
 use mathlib.Core.Logic.{_⊎_}

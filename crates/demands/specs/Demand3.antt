@@ -1,6 +1,7 @@
 -- Demand 3: what the clauses mean. An allowed build has exactly one setting of the variables 1 to V; one not allowed has
 -- none, and unit propagation from its values alone reaches a conflict. Every setting that satisfies the clauses gives each
--- option exactly one value, and that build is allowed. Options and values count from 0; `last` is V. Assumes nothing.
+-- option exactly one value, and that build is allowed. With it, the same propagation for half-finished orders; and all of it
+-- of what `encode` has written and `judge` has answered, too. Options and values count from 0; `last` is V. Assumes nothing.
 use mathlib.Core.Path.{_≡_}
 use mathlib.Core.Logic.{_↔_}
 use mathlib.Core.Bool.{true}

@@ -1,5 +1,5 @@
--- Half-finished orders: unit propagation where any values of any options are ruled in or out. It is the propagation half of
--- the paper's Theorem 3. Assumes nothing.
+-- Half-finished orders: unit propagation where any values of any options are ruled in or out. It is the paper's Theorem 3 for
+-- our clauses: a whole build is an order, too. Assumes nothing.
 use mathlib.Core.Path.{_≡_}
 use mathlib.Core.Bool.{Bool, true, false}
 use mathlib.Core.List.{List}

@@ -1,7 +1,7 @@
 -- Laws of a build's walk. What they need of a diagram is that its edges lead to ends or to later layers; so they hold
 -- wherever edges may skip options, too. Assumes nothing.
 use mathlib.Core.Path.{_≡_, refl, sym, _∙_, ap}
-use mathlib.Core.Logic.{_⊎_, ⊎-elim, _↔_}
+use mathlib.Core.Logic.{⊎-elim, _↔_}
 use Prim.Native.Nat.{ℕ, zero, suc, _+_, _-_, _≤_, _<_}
 use native.Mathlib.Omega.{arith}
 use Rattle.lists.proofs.UptoLaws.{below-or-not}

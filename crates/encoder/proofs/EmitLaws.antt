@@ -19,7 +19,7 @@ use Rattle.diagram.specs.Numbers.{valueNumber, referenceNumber, edgeNumber, fir
 use Rattle.diagram.proofs.ShapedLaws.{asked-in, edge-sums, edges-most}
 use Rattle.diagram.proofs.RangeLaws.{part-length}
 use Rattle.diagram.proofs.NumberLaws.{value-sums, values-most, target-most}
-use Rattle.clauses.specs.Variables.{valueVariable, referenceVariable}
+use Rattle.clauses.specs.Variables.{referenceVariable, nodeVariable, targetVariable, askedVariable}
 use Rattle.clauses.specs.Clauses.{oneOf, allValues, pair, edition1, units, t2to5, t1, t1to5, nodeClauses, optionClauses, clauses}
 use Rattle.encoder.specs.Emit.{lentEdge, lentNode, Small}
 
@@ -135,6 +135,6 @@ module _ (d : Lent) (s : Sound d) {D n : ℕ} (eD : D ≡ values d) (en : n ≡ 
   part-node =
       let two : v + 2 ≡ suc (suc v) = omega arith in
       rw (eD, en, eb, as-wide, two)
-      (ap (λ (cs : List Clause). t1 (referenceVariable d (suc (suc v))) (λ j. edgeNumber (values d) (nodes d) (edge + j)) (width d v) ∷ cs)
-      (list-same _ _ (width d v) (λ j l. ap (λ (m : ℕ). t2to5 (edgeNumber (values d) (nodes d) (edge + j)) (referenceVariable d (suc (suc v))) (referenceVariable d m) (valueVariable d (asked d v) j)) (part-target j l)))
-      ∙ ap (λ (e : ℕ). t1to5 (referenceVariable d (suc (suc v))) (λ j. edgeNumber (values d) (nodes d) (e + j)) (λ j. t2to5 (edgeNumber (values d) (nodes d) (e + j)) (referenceVariable d (suc (suc v))) (referenceVariable d (target d v j)) (valueVariable d (asked d v) j)) (width d v)) ee)
+      (ap (λ (cs : List Clause). t1 (nodeVariable d v) (λ j. edgeNumber (values d) (nodes d) (edge + j)) (width d v) ∷ cs)
+      (list-same _ _ (width d v) (λ j l. ap (λ (m : ℕ). t2to5 (edgeNumber (values d) (nodes d) (edge + j)) (nodeVariable d v) (referenceVariable d m) (askedVariable d v j)) (part-target j l)))
+      ∙ ap (λ (e : ℕ). t1to5 (nodeVariable d v) (λ j. edgeNumber (values d) (nodes d) (e + j)) (λ j. t2to5 (edgeNumber (values d) (nodes d) (e + j)) (nodeVariable d v) (targetVariable d v j) (askedVariable d v j)) (width d v)) ee)

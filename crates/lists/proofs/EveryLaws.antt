@@ -1,8 +1,10 @@
 -- Laws of what holds of every entry of a list. Assumes nothing.
-use mathlib.Core.Path.{sym, subst}
+use mathlib.Core.Path.{refl, sym, subst}
 use mathlib.Core.Logic.{_⊎_, inl, inr}
 use mathlib.Core.List.{List, [], _∷_, _++_, List·Memᴰ, List·Memᴰ·head, List·Memᴰ·tail, List·Memᴰ·not-nil, List·Memᴰ·append-cases}
-use Prim.Native.Nat.{ℕ, _<_}
+use Prim.Native.Nat.{ℕ, zero, suc, _<_}
+use native.Mathlib.Omega.{arith}
+use lib.ListN.{length, getD}
 use Rattle.lists.specs.Upto.{upTo}
 use Rattle.lists.specs.Every.{Every, Each}
 use Rattle.lists.proofs.UptoLaws.{of-list}
@@ -28,3 +30,9 @@ module _ {A : Type 0} (P : A → Type 0) where
   pub each-every : (xs : List A) → Each P xs → Every P xs
   each-every [] e = every-none
   each-every (x ∷ xs) e = every-more (e .0) (each-every xs (e .1))
+
+-- an entry is in the list
+pub entry-in : {A : Type 0} (a : A) (l : List A) (k : ℕ) → k < length l → List·Memᴰ (getD l k a) l
+entry-in a [] k h = absurd (omega arith)
+entry-in a (x ∷ l) zero h = List·Memᴰ·head refl
+entry-in a (x ∷ l) (suc k) h = List·Memᴰ·tail (entry-in a l k (omega arith))

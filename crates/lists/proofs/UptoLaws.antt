@@ -193,7 +193,7 @@ module _ (test : ℕ → Bool) where
       go false e (inr l) r = r l
 
   -- an index at which the test holds, and after which it does not, is the last
-  pub is-last : (n i : ℕ) → i < n → test i ≡ true → ((j : ℕ) → i < j → j < n → test j ≡ false) → lastTo n test ≡ i
+  is-last : (n i : ℕ) → i < n → test i ≡ true → ((j : ℕ) → i < j → j < n → test j ≡ false) → lastTo n test ≡ i
   unfolding lastTo
   is-last zero i h t g = absurd (not-suc-le-zero h)
   is-last (suc n) i h t g = go (last-or-below i n h) (λ l. is-last n i l t (λ j a b. g j a (omega arith)))
