@@ -34,7 +34,7 @@ pub record ExactlyOne (e : Edition) : Type 0 where
   pub conflicts : (b h k : ℕ) → Conflict (AllOut b k) (e .option b h k)
   -- from value j it reaches the negation of each other value
   pub rules-out : (b h k i j : ℕ) → i < k → j < k → (i ≡ j → ⊥) → Reached (OneIn b j) (e .option b h k) (negated (valueNumber b i))
-  -- a setting satisfies the clauses exactly where some value is the one true value
+  -- a setting satisfies the clauses exactly where some value is the one true value, and the helpers are as they are to be for it
   pub satisfied-exactly : (b h k : ℕ) (σ : Setting) → Satisfies σ (e .option b h k) ↔ ((j : ℕ) × ValueIs e helper b h k σ j)
 
 -- ---- variables

@@ -1,7 +1,8 @@
 -- Demand 3: what the clauses mean. An allowed build has exactly one setting of the variables 1 to V; one not allowed has
 -- none, and unit propagation from its values alone reaches a conflict. Every setting that satisfies the clauses gives each
--- option exactly one value, and that build is allowed. With it, the same propagation for half-finished orders; and all of it
--- of what `encode` has written and `judge` has answered, too. Options and values count from 0; `last` is V. Assumes nothing.
+-- option exactly one value, and that build is allowed. With it, the same propagation for half-finished orders; all of it of
+-- what `encode` has written, too; and the first two of the builds that `judge` has answered "allowed" and "not allowed".
+-- Options and values count from 0; `last` is V. Assumes nothing.
 use mathlib.Core.Path.{_≡_}
 use mathlib.Core.Logic.{_↔_}
 use mathlib.Core.Bool.{true}
@@ -43,7 +44,7 @@ SameTo last σ τ = (n : ℕ) → 1 ≤ n → n ≤ last → σ n ≡ τ n
 
 -- the setting gives each option exactly one value of its range, and that is the build's
 pub record Gives (d : Lent) (x : ℕ → ℕ) (σ : Setting) : Type 0 where
-  pub in-range : (i : ℕ) → i < options d → x i < domain d i
+  pub in-range : Build d x
   pub exactly : (i j : ℕ) → i < options d → j < domain d i → (σ (valueVariable d i j) ≡ true) ↔ (j ≡ x i)
 
 -- the build alone: the positive literal of each option's value, and no other literal
