@@ -5,5 +5,6 @@ pub mod Meaning
 pub mod Listed
 pub mod Demand2
 pub mod Demand3
+pub mod ReadBack
 pub mod Samples
 pub mod Picture

@@ -1,4 +1,4 @@
--- The small table of samples: what the definitions say of a few diagrams. Assumes nothing.
+-- The small table of samples: what the definitions say of a few diagrams and models. Assumes nothing.
 use mathlib.Core.Path.{_≡_}
 use mathlib.Core.Bool.{Bool, true, false}
 use mathlib.Core.List.{List, [], _∷_}
@@ -8,10 +8,11 @@ use lib.ListN.{length, replicate}
 use Rattle.refusal.specs.Rules.{refusal, chain}
 use Rattle.refusal.specs.declared.Verdict.the-variants.{Passed, Refused}
 use Rattle.cnf.specs.Clause.{plain, negated, words}
-use Rattle.diagram.specs.Lent.{Lent, lent}
+use Rattle.diagram.specs.Lent.{Lent, lent, options}
 use Rattle.diagram.specs.Rules.{checkRules}
 use Rattle.judge.specs.Promise.{allowsTest}
 use Rattle.clauses.specs.Clauses.{edition1, lastVariable, clauses}
+use Rattle.model.specs.Rules.{buildOf, modelRules}
 
 pub data Sample : Type 0 where
   -- the diagram's words are these
@@ -24,6 +25,10 @@ pub data Sample : Type 0 where
   refused : Lent → ℕ → ℕ → Sample
   -- it is not refused
   passes : Lent → Sample
+  -- the model reads as this build, where the lent list has room for it
+  reads : Lent → List ℤ → List ℕ → Sample
+  -- it is refused there, by this number and with this place
+  unread : Lent → List ℤ → ℕ → ℕ → Sample
 
 abbrev pub Holds : Sample → Type 0
 Holds (lists d ws) = words (clauses edition1 d) ≡ ws
@@ -31,6 +36,8 @@ Holds (counts d w c v) = (length (words (clauses edition1 d)) ≡ w) × (length 
 Holds (allows d build a) = allowsTest d build ≡ a
 Holds (refused d n p) = chain (checkRules d) ≡ Refused (refusal n p)
 Holds (passes d) = chain (checkRules d) ≡ Passed
+Holds (reads d m build) = (chain (modelRules d m edition1 (options d)) ≡ Passed) × (buildOf d m ≡ build)
+Holds (unread d m n p) = chain (modelRules d m edition1 (options d)) ≡ Refused (refusal n p)
 
 abbrev pub s1 : Lent
 s1 = lent (2 ∷ []) (1 ∷ []) (0 ∷ 1 ∷ [])
@@ -86,4 +93,14 @@ samples =
     ∷ refused (s6 (2 ∷ 0 ∷ [])) 2 1
     ∷ refused (fan 33) 2 0
     ∷ passes (fan 32)
+    ∷ reads s1 (negated 1 ∷ plain 2 ∷ []) (1 ∷ [])
+    ∷ reads s1 (plain 2 ∷ []) (1 ∷ [])
+    ∷ unread s1 (plain 1 ∷ []) 13 0
+    ∷ unread s1 [] 12 0
+    ∷ unread s1 (plain 1 ∷ plain 2 ∷ []) 12 0
+    ∷ unread s1 (plain 2 ∷ negated 2 ∷ []) 11 1
+    ∷ unread s1 (plain 2 ∷ negated 2 ∷ pos 0 ∷ []) 10 2
+    ∷ unread s1 (plain 8 ∷ []) 10 0
+    ∷ unread s1 (pos 0 ∷ []) 10 0
+    ∷ unread s1 (negated 2147483648 ∷ []) 10 0
     ∷ []

@@ -67,7 +67,7 @@ module _ (d : Lent) where
 
   pub check-faithful : Faithful (checkRules d) (checkTable d)
   unfolding checkRules optionRules nodeRules targetRules
-  check-faithful = (refl, tests-1 d .at, (refl, tests-2 d .at, (refl, tests-3 d .at, (refl, tests-4 d .at, (refl, tests-5 .at, (refl, tests-6 .at, tt))))))
+  check-faithful = (refl, tests-1 d .at, λ _. (refl, tests-2 d .at, λ _. (refl, tests-3 d .at, λ _. (refl, tests-4 d .at, λ _. (refl, tests-5 .at, λ _. (refl, tests-6 .at, λ _. tt))))))
 
   -- ---- a sound diagram
 

@@ -37,7 +37,7 @@ own-tally d t r e q =
 module _ (e : Edition) (d : Lent) where
   encode-faithful : (room : ℕ) → Faithful (encodeRules e d room) (encodeTable e d room)
   unfolding encodeRules
-  encode-faithful room = faithful-append (checkRules d) (roomRule (needed e d) room ∷ []) (checkTable d) (roomRow (needed e d) room ∷ []) (check-faithful d) (room-faithful (needed e d) room)
+  encode-faithful room = faithful-append (checkRules d) (roomRule (needed e d) room ∷ []) (checkTable d) (roomRow (needed e d) room ∷ []) (check-faithful d) (λ _. room-faithful (needed e d) room)
 
   pub all-passed : (room : ℕ) → (chain (encodeRules e d room) ≡ Passed) ↔ (Sound d × (needed e d ≤ room))
   unfolding encodeRules

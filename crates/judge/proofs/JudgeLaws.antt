@@ -43,11 +43,11 @@ module _ (d : Lent) (build : List ℕ) where
 
   build-faithful : Faithful (buildRules d build) (buildTable d build)
   unfolding buildRules
-  build-faithful = (refl, tests-8 .at, (refl, tests-9 .at, tt))
+  build-faithful = (refl, tests-8 .at, λ _. (refl, tests-9 .at, λ _. tt))
 
   judge-faithful : Faithful (judgeRules d build) (judgeTable d build)
   unfolding judgeRules
-  judge-faithful = faithful-append (checkRules d) (buildRules d build) (checkTable d) (buildTable d build) (check-faithful d) build-faithful
+  judge-faithful = faithful-append (checkRules d) (buildRules d build) (checkTable d) (buildTable d build) (check-faithful d) (λ _. build-faithful)
 
   pub passed-fits : chain (buildRules d build) ≡ Passed → Fits d build
   unfolding buildRules
@@ -89,6 +89,14 @@ module _ (d : Lent) (build : List ℕ) where
     -- the two results: the walk's test, and what it is for
     results : (o : Judged) (b : Bool) (u : ℕ) → judgeSaid o ≡ result (u ∷ []) → u ≡ cond b 1 0 → Sound d × Fits d build → allowsTest d build ≡ b → answer .outcome ≡ o
     results o b u e q w t = judge-said-once (answer .outcome) o (promise .says ∙ rw (all-passed .1 w, t) (sym (e ∙ ap (λ (n : ℕ). result (n ∷ [])) q)))
+
+    -- of a sound diagram and a build that fits it, the answer is what the walk's test says
+    pub judged-by-test : Sound d × Fits d build → answer .outcome ≡ cond (allowsTest d build) Allowed NotAllowed
+    judged-by-test w = go (allowsTest d build) refl
+      where
+        go : (b : Bool) → allowsTest d build ≡ b → answer .outcome ≡ cond b Allowed NotAllowed
+        go true e = results Allowed true 1 refl refl w e
+        go false e = results NotAllowed false 0 refl refl w e
 
     tells : (o : Judged) (u : ℕ) → judgeSaid o ≡ result (u ∷ []) → answer .outcome ≡ o → (Sound d × Fits d build) × (u ≡ cond (allowsTest d build) 1 0)
     tells o u e q =

@@ -33,6 +33,11 @@ module _ {A : Type 0} (xs buf : List A) where
   unfolding over
   over-drop = drop-append-seam xs (drop (length xs) buf)
 
+  -- as many as the buffer has: nothing is left of it
+  pub over-all : length buf ≤ length xs → over xs buf ≡ xs
+  unfolding over
+  over-all h = ap (λ (l : List A). xs ++ l) (drop-of-length-le buf h) ∙ append-nil xs
+
   -- one more is stored after them
   pub over-one : (a : A) → length xs < length buf → set (over xs buf) (length xs) a ≡ over (xs ++ (a ∷ [])) buf
   unfolding over

@@ -1,5 +1,5 @@
 -- Laws of what holds of every entry of a list. Assumes nothing.
-use mathlib.Core.Path.{refl, sym, subst}
+use mathlib.Core.Path.{_≡_, refl, sym, subst}
 use mathlib.Core.Logic.{_⊎_, inl, inr}
 use mathlib.Core.List.{List, [], _∷_, _++_, List·Memᴰ, List·Memᴰ·head, List·Memᴰ·tail, List·Memᴰ·not-nil, List·Memᴰ·append-cases}
 use Prim.Native.Nat.{ℕ, zero, suc, _<_}
@@ -36,3 +36,8 @@ pub entry-in : {A : Type 0} (a : A) (l : List A) (k : ℕ) → k < length l → 
 entry-in a [] k h = absurd (omega arith)
 entry-in a (x ∷ l) zero h = List·Memᴰ·head refl
 entry-in a (x ∷ l) (suc k) h = List·Memᴰ·tail (entry-in a l k (omega arith))
+
+-- what is in the list is an entry
+pub in-entry : {A : Type 0} (a : A) {x : A} (l : List A) → List·Memᴰ x l → (k : ℕ) × (k < length l) × (getD l k a ≡ x)
+in-entry a (y ∷ l) (List·Memᴰ·head e) = (0, omega arith, sym e)
+in-entry a (y ∷ l) (List·Memᴰ·tail m) = let t = in-entry a l m in let h : t .0 < length l = t .1 in (suc (t .0), omega arith, t .2)

@@ -1,4 +1,5 @@
--- Laws of the first index at which a test holds: a loop's three exits, and that the index is the least. Assumes nothing.
+-- Laws of the first index at which a test holds: a loop's three exits, and that the index is the least; and of the count of
+-- such indices, where it is none or one. Assumes nothing.
 use mathlib.Core.Path.{_≡_, refl, sym, _∙_, ap}
 use mathlib.Core.Bool.{Bool, true, false, not, cond}
 use mathlib.Core.Logic.{_⊎_, inl, inr, ⊎-elim, _↔_}
@@ -7,12 +8,12 @@ use native.Mathlib.Numerals.{add-one}
 use native.Mathlib.Nat.{not-suc-le-zero}
 use native.Mathlib.Omega.{arith}
 use lib.Dec.{ltb, eqb}
-use borrow.Author.Tests.{ltb-true, ltb-false, eqb-true, eqb-false, not-true, not-false}
-use Rattle.lists.specs.Upto.{sumTo, countTo}
-use Rattle.lists.specs.First.{foundIf, orFound, first, FirstFailing}
+use borrow.Author.Tests.{ltb-true, ltb-false, eqb-true, eqb-false, ne-eqb, not-true, not-false}
+use Rattle.lists.specs.Upto.{sumTo, countTo, lastTo}
+use Rattle.lists.specs.First.{foundIf, orFound, first, sole, FirstFailing}
 use Rattle.lists.specs.declared.Found.{Found}
 use Rattle.lists.specs.declared.Found.the-variants.{Nothing, At}
-use Rattle.lists.proofs.UptoLaws.{last-or-below, below-or-not, decide, sum-more, sum-most}
+use Rattle.lists.proofs.UptoLaws.{last-or-below, below-or-not, decide, is-false, sum-more, sum-most, sum-room, sum-stretch, sum-same, last-is, up-to-last, is-last}
 
 pub if-none : (b : Bool) (k : ℕ) → foundIf b k ≡ Nothing → b ≡ false
 if-none false k e = refl
@@ -109,6 +110,10 @@ unfolding first
 first-agrees f g zero h = refl
 first-agrees f g (suc n) h = rw (first-agrees f g n (λ k l. h k (omega arith)), h n (omega arith))
 
+pub count-agrees : (f g : ℕ → Bool) (n : ℕ) → ((k : ℕ) → k < n → f k ≡ g k) → countTo n f ≡ countTo n g
+unfolding countTo
+count-agrees f g n h = sum-same (λ k. cond (f k) 1 0) (λ k. cond (g k) 1 0) n (λ k l. rw (h k l))
+
 -- where a count is none, so is the search
 module _ (bad : ℕ → Bool) where
   pub count-start : countTo 0 bad ≡ 0
@@ -141,6 +146,59 @@ module _ (bad : ℕ → Bool) where
       go true q r = absurd (omega (arith, rw q at e))
       go false q r = rw (r (omega (arith, rw q at e)), q)
 
+-- a count of one: the test holds at the last index, and at no other
+module _ (test : ℕ → Bool) where
+  -- a stretch where the test holds nowhere
+  count-still : (i n : ℕ) → i ≤ n → ((j : ℕ) → i ≤ j → j < n → test j ≡ false) → countTo n test ≡ countTo i test
+  unfolding countTo
+  count-still i n h g =
+      let e : n ≡ i + (n - i) = omega arith in
+      ap (λ (k : ℕ). countTo k test) e
+      ∙ sum-stretch (λ k. cond (test k) 1 0) 0 i (n - i) (λ j l m. rw (g j l (omega arith)))
+      ∙ omega arith
+
+  count-free : (n : ℕ) → ((j : ℕ) → j < n → test j ≡ false) → countTo n test ≡ 0
+  count-free n g = count-still 0 n (omega arith) (λ j _ l. g j l) ∙ count-start test
+
+  count-two : (i j n : ℕ) → i < j → j < n → test i ≡ true → test j ≡ true → 2 ≤ countTo n test
+  unfolding countTo
+  count-two i j n h l s t =
+      let f : ℕ → ℕ = λ k. cond (test k) 1 0 in
+      let a : f i ≡ 1 = rw s in
+      let b : f j ≡ 1 = rw t in
+      omega (arith, sum-room f i j h, sum-room f j n l)
+
+  pub count-one : (n : ℕ) → countTo n test ≡ 1 → (lastTo n test < n) × (test (lastTo n test) ≡ true) × ((j : ℕ) → j < n → test j ≡ true → j ≡ lastTo n test)
+  count-one n e = go (last-is test n)
+    where
+      go : ((lastTo n test < n) × (test (lastTo n test) ≡ true)) ⊎ ((j : ℕ) → j < n → test j ≡ false)
+          → (lastTo n test < n) × (test (lastTo n test) ≡ true) × ((j : ℕ) → j < n → test j ≡ true → j ≡ lastTo n test)
+      go (inl w) = (
+        w .0,
+        w .1,
+        λ j h t. ⊎-elim (λ (l : j < lastTo n test). absurd (omega (arith, count-two j (lastTo n test) n l (w .0) t (w .1)))) (λ (l : lastTo n test ≤ j). omega (arith, up-to-last test n j h t)) (below-or-not j (lastTo n test)),
+      )
+      go (inr g) = absurd (omega (arith, count-free n g))
+
+  pub one-count : (n i : ℕ) → i < n → test i ≡ true → ((j : ℕ) → j < n → test j ≡ true → j ≡ i) → (countTo n test ≡ 1) × (lastTo n test ≡ i)
+  one-count n i h t g = (
+    count-still (i + 1) n (omega arith) (λ j l m. no-other j m (λ q. omega arith)) ∙ sym (count-found test i (sym (count-free i (λ j l. no-other j (omega arith) (λ q. omega arith)))) t),
+    is-last test n i h t (λ j l m. no-other j m (λ q. omega arith)),
+  )
+    where
+      no-other : (j : ℕ) → j < n → (j ≡ i → ⊥) → test j ≡ false
+      no-other j l m = is-false (test j) (λ e. m (g j l e))
+
+-- a loop that has counted the indices and kept the last one comes to the end: there is exactly one, or not
+module _ (test : ℕ → Bool) (i n : ℕ) {c : ℕ} (h : i ≤ n) (l : n ≤ i) (count : c ≡ countTo i test) where
+  pub sole-one : {v : ℕ} → v ≡ lastTo i test → c ≡ 1 → At v ≡ sole test n
+  unfolding sole
+  sole-one last e = let q : i ≡ n = omega arith in rw (← q, ← count, e, ← last)
+
+  pub sole-none : (c ≡ 1 → ⊥) → Nothing ≡ sole test n
+  unfolding sole
+  sole-none e = let q : i ≡ n = omega arith in rw (← q, ← count, ne-eqb c 1 e)
+
 -- a test and what it is for: it finds p exactly when what is asked for is missing at p, and nothing exactly when all is well
 pub record Tests (found : Found) (Missing : ℕ → Type 0) (Well : Type 0) : Type 0 where
   pub at : (p : ℕ) → (found ≡ At p) ↔ Missing p
@@ -149,7 +207,7 @@ pub record Tests (found : Found) (Missing : ℕ → Type 0) (Well : Type 0) : Ty
 -- a search, where below n the test is true exactly of the indices of which P fails
 module _ (bad : ℕ → Bool) (P : ℕ → Type 0) (n : ℕ) (good : (k : ℕ) → k < n → bad k ≡ false → P k) (not-good : (k : ℕ) → k < n → bad k ≡ true → P k → ⊥) where
   holds : (k : ℕ) → k < n → P k → bad k ≡ false
-  holds k h p = ⊎-elim (λ (e : bad k ≡ true). absurd (not-good k h e p)) (λ (e : bad k ≡ false). e) (decide (bad k))
+  holds k h p = is-false (bad k) (λ e. not-good k h e p)
 
   fails : (k : ℕ) → k < n → (P k → ⊥) → bad k ≡ true
   fails k h p = ⊎-elim (λ (e : bad k ≡ true). e) (λ (e : bad k ≡ false). absurd (p (good k h e))) (decide (bad k))

@@ -9,7 +9,7 @@ use native.Mathlib.Decide.{decLt}
 use native.Mathlib.Numerals.{add-one}
 use native.Mathlib.Omega.{arith}
 use lib.ListN.{length, length-append, getD, List·getD-append}
-use lib.Seq.{getD-at}
+use lib.Seq.{getD-at, ext-getD}
 use lib.Dec.{leb}
 use borrow.Author.Tests.{le-leb, lt-leb}
 use Rattle.lists.specs.Upto.{sumTo, upTo, lastTo}
@@ -22,6 +22,11 @@ last-or-below i n h = eq-or-lt-of-le (omega arith)
 pub decide : (b : Bool) → (b ≡ true) ⊎ (b ≡ false)
 decide true = inl refl
 decide false = inr refl
+
+-- what is not true is false
+pub is-false : (b : Bool) → (b ≡ true → ⊥) → b ≡ false
+is-false true h = absurd (h refl)
+is-false false h = refl
 
 -- a number lies below another, or not
 pub below-or-not : (a b : ℕ) → (a < b) ⊎ (b ≤ a)
@@ -142,6 +147,12 @@ list-at a f (suc n) i h = go (last-or-below i n h) (list-at a f n i)
     go (inl e) r = rw e (getD-at (upTo n (λ k. f k ∷ [])) (f n) [] a n (list-singles n f))
     go (inr l) r = List·getD-append (upTo n (λ k. f k ∷ [])) (f n ∷ []) a i (omega (arith, list-singles n f)) ∙ r l
 
+-- each entry of a list in turn
+pub list-whole : {A : Type 0} (a : A) (xs : List A) → upTo (length xs) (λ k. getD xs k a ∷ []) ≡ xs
+list-whole a xs =
+    let n = list-singles (length xs) (λ k. getD xs k a) in
+    ext-getD a (upTo (length xs) (λ k. getD xs k a ∷ [])) xs n (λ k h. list-at a (λ k. getD xs k a) (length xs) k (omega (arith, n)))
+
 -- the same at each index
 pub list-same {ℓ} : {A : Type ℓ} (f g : ℕ → List A) (n : ℕ) → ((k : ℕ) → k < n → f k ≡ g k) → upTo n f ≡ upTo n g
 unfolding upTo
@@ -170,6 +181,19 @@ module _ {A : Type 0} (f : ℕ → List A) {a : A} where
 -- ---- the last index
 
 module _ (test : ℕ → Bool) where
+  pub last-start : lastTo 0 test ≡ 0
+  unfolding lastTo
+  last-start = refl
+
+  -- a loop that has the last index before n passes n, or takes it
+  pub last-pass : (n : ℕ) {v : ℕ} → v ≡ lastTo n test → test n ≡ false → v ≡ lastTo (n + 1) test
+  unfolding lastTo
+  last-pass n h e = rw (add-one n, e) h
+
+  pub last-found : (n : ℕ) → test n ≡ true → n ≡ lastTo (n + 1) test
+  unfolding lastTo
+  last-found n e = rw (add-one n, e)
+
   -- the last index is one at which the test holds, or it holds at none
   pub last-is : (n : ℕ) → ((lastTo n test < n) × (test (lastTo n test) ≡ true)) ⊎ ((j : ℕ) → j < n → test j ≡ false)
   unfolding lastTo
@@ -193,7 +217,7 @@ module _ (test : ℕ → Bool) where
       go false e (inr l) r = r l
 
   -- an index at which the test holds, and after which it does not, is the last
-  is-last : (n i : ℕ) → i < n → test i ≡ true → ((j : ℕ) → i < j → j < n → test j ≡ false) → lastTo n test ≡ i
+  pub is-last : (n i : ℕ) → i < n → test i ≡ true → ((j : ℕ) → i < j → j < n → test j ≡ false) → lastTo n test ≡ i
   unfolding lastTo
   is-last zero i h t g = absurd (not-suc-le-zero h)
   is-last (suc n) i h t g = go (last-or-below i n h) (λ l. is-last n i l t (λ j a b. g j a (omega arith)))
@@ -201,6 +225,12 @@ module _ (test : ℕ → Bool) where
       go : (i ≡ n) ⊎ (i < n) → (i < n → lastTo n test ≡ i) → lastTo (suc n) test ≡ i
       go (inl e) r = rw (sym (ap test e) ∙ t) (sym e)
       go (inr l) r = rw (g n l (omega arith)) (r l)
+
+-- two tests that agree below n
+pub last-agrees : (f g : ℕ → Bool) (n : ℕ) → ((k : ℕ) → k < n → f k ≡ g k) → lastTo n f ≡ lastTo n g
+unfolding lastTo
+last-agrees f g zero h = refl
+last-agrees f g (suc n) h = rw (last-agrees f g n (λ k l. h k (omega arith)), h n (omega arith))
 
 -- where f k entries stand for each k in turn, an entry's index k is the last one at which they begin no later
 pub last-term : {f total : ℕ → ℕ} → Sums f total → (n i u : ℕ) → i < n → total i ≤ u → u < total i + f i → lastTo n (λ k. leb (total k) u) ≡ i

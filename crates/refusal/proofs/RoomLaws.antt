@@ -12,7 +12,7 @@ use Rattle.refusal.proofs.TableLaws.{Faithful}
 
 module _ (needed room : ℕ) where
   pub room-faithful : Faithful (roomRule needed room ∷ []) (roomRow needed room ∷ [])
-  room-faithful = (refl, tests-room room needed .at, tt)
+  room-faithful = (refl, tests-room room needed .at, λ _. tt)
 
   pub too-short : room < needed → chain (roomRule needed room ∷ []) ≡ Refused (refusal 7 needed)
   unfolding chain

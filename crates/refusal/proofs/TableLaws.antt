@@ -26,18 +26,19 @@ abbrev pub eachOnce : List ℕ → Bool
 eachOnce [] = true
 eachOnce (m ∷ ms) = lacks m ms && eachOnce ms
 
--- each rule has its row's number, and computes the place at which the row is due
+-- each rule has its row's number and, where no rule before it is due, computes the place at which the row is due
 abbrev pub Faithful : List Rule → List Row → Type 0
 Faithful [] [] = Unit {0}
 Faithful [] (r ∷ table) = ⊥
 Faithful (r ∷ rules) [] = ⊥
-Faithful (rule n found ∷ rules) (row m due ∷ table) = (n ≡ m) × ((p : ℕ) → (found ≡ At p) ↔ due p) × Faithful rules table
+Faithful (rule n found ∷ rules) (row m due ∷ table) = (n ≡ m) × ((p : ℕ) → (found ≡ At p) ↔ due p) × (found ≡ Nothing → Faithful rules table)
 
-pub faithful-append : (xs ys : List Rule) (ts us : List Row) → Faithful xs ts → Faithful ys us → Faithful (xs ++ ys) (ts ++ us)
-faithful-append [] ys [] us f g = g
+pub faithful-append : (xs ys : List Rule) (ts us : List Row) → Faithful xs ts → (chain xs ≡ Passed → Faithful ys us) → Faithful (xs ++ ys) (ts ++ us)
+unfolding chain
+faithful-append [] ys [] us f g = g refl
 faithful-append [] ys (t ∷ ts) us f g = absurd f
 faithful-append (x ∷ xs) ys [] us f g = absurd f
-faithful-append (rule n found ∷ xs) ys (row m due ∷ ts) us f g = (f .0, f .1, faithful-append xs ys ts us (f .2) g)
+faithful-append (rule n found ∷ xs) ys (row m due ∷ ts) us f g = (f .0, f .1, λ e. faithful-append xs ys ts us (f .2 e) (λ q. g (rw e q)))
 
 and-both : (a b : Bool) → T (a && b) → T a × T b
 and-both true b t = (tt, t)
@@ -125,7 +126,7 @@ told (rule k (At q) ∷ rules) (row m due ∷ table) f t n p e =
     (due-first m due table n p i (f .1 p .0 (ap At (w .1))), free-first m due table n i)
 told (rule k Nothing ∷ rules) (row m due ∷ table) f t n p e =
     let u = and-both (lacks m (numbers table)) (eachOnce (numbers table)) t in
-    let w = told rules table (f .2) (u .1) n p e in
+    let w = told rules table (f .2 refl) (u .1) n p e in
     let i = other n m (numbers table) (u .0) (due-number table n p (w .0)) in
     (due-later m due table n p i (w .0), free-later m due table n (u .0) i (λ q d. found-one Nothing refl (f .1 q .1 d)) (w .1))
 
@@ -134,18 +135,19 @@ unfolding chain
 tells [] [] f t n p r g = absurd r
 tells [] (x ∷ table) f t n p r g = absurd f
 tells (x ∷ rules) [] f t n p r g = absurd f
-tells (rule k found ∷ rules) (row m due ∷ table) f t n p r g = go (eqb m n) refl (tells rules table (f .2) (u .1) n p)
+tells (rule k found ∷ rules) (row m due ∷ table) f t n p r g = go (eqb m n) refl (λ e. tells rules table (f .2 e) (u .1) n p)
   where
     u : T (lacks m (numbers table)) × T (eachOnce (numbers table))
     u = and-both (lacks m (numbers table)) (eachOnce (numbers table)) t
 
-    go : (b : Bool) → eqb m n ≡ b → (DueIn table n p → NoneBefore table n → chain rules ≡ Refused (refusal n p)) → ruled k found (chain rules) ≡ Refused (refusal n p)
+    go : (b : Bool) → eqb m n ≡ b → (found ≡ Nothing → DueIn table n p → NoneBefore table n → chain rules ≡ Refused (refusal n p)) → ruled k found (chain rules) ≡ Refused (refusal n p)
     go true e s =
         let i = eqb-true m n e in
         rw (f .1 p .1 (first-due m due table p (subst (λ (j : ℕ). DueIn (row m due ∷ table) j p) (sym i) r))) (ap (λ (j : ℕ). Refused (refusal j p)) (f .0 ∙ i))
     go false e s =
         let w = free-rest m due table n (u .0) e g in
-        rw (nowhere found (λ q d. w .0 q (f .1 q .0 d))) (s (later-due m due table n p e r) (w .1))
+        let z = nowhere found (λ q d. w .0 q (f .1 q .0 d)) in
+        rw z (s z (later-due m due table n p e r) (w .1))
 
 none-due : (rules : List Rule) (table : List Row) → Faithful rules table → chain rules ≡ Passed → (n p : ℕ) → DueIn table n p → ⊥
 unfolding chain
@@ -153,7 +155,7 @@ none-due [] [] f e n p r = r
 none-due [] (x ∷ table) f e n p r = f
 none-due (x ∷ rules) [] f e n p r = r
 none-due (rule k (At q) ∷ rules) (row m due ∷ table) f e n p r = let z : _≡_ {A = ℕ} 0 1 = cc in absurd (omega arith)
-none-due (rule k Nothing ∷ rules) (row m due ∷ table) f e n p r = go (eqb m n) r (none-due rules table (f .2) e n p)
+none-due (rule k Nothing ∷ rules) (row m due ∷ table) f e n p r = go (eqb m n) r (none-due rules table (f .2 refl) e n p)
   where
     go : (b : Bool) → either b (due p) (DueIn table n p) → (DueIn table n p → ⊥) → ⊥
     go true d s = found-one Nothing refl (f .1 p .1 d)
@@ -166,8 +168,9 @@ all-pass [] (x ∷ table) f t g = absurd f
 all-pass (x ∷ rules) [] f t g = absurd f
 all-pass (rule k found ∷ rules) (row m due ∷ table) f t g =
     let u = and-both (lacks m (numbers table)) (eachOnce (numbers table)) t in
-    rw (nowhere found (λ q d. g m q (due-first m due table m q refl (f .1 q .0 d))))
-    (all-pass rules table (f .2) (u .1) (λ n p r. g n p (due-later m due table n p (other n m (numbers table) (u .0) (due-number table n p r)) r)))
+    let z = nowhere found (λ q d. g m q (due-first m due table m q refl (f .1 q .0 d))) in
+    rw z
+    (all-pass rules table (f .2 z) (u .1) (λ n p r. g n p (due-later m due table n p (other n m (numbers table) (u .0) (due-number table n p r)) r)))
 
 passes-or-refuses : (v : Verdict) → ((r : Refusal) → v ≡ Refused r → ⊥) → v ≡ Passed
 passes-or-refuses Passed h = refl

@@ -1,0 +1,5 @@
+-- The laws of this crate that others cite. Assumes nothing.
+pub mod MarkLaws
+pub mod SaidLaws
+pub mod ReadLaws
+pub mod ModelLaws

@@ -1,0 +1,168 @@
+-- What the marks and the counts of a model's literals say of its variables and of the options: the tests of the numbers
+-- 10 to 12 are for what their rows ask. Assumes nothing.
+use mathlib.Core.Path.{_≡_, refl, sym, _∙_, ap, subst}
+use mathlib.Core.Bool.{Bool, true, false, not, cond, _&&_, true≢false}
+use mathlib.Core.List.{List, List·Memᴰ}
+use mathlib.Core.Logic.{_⊎_, inl, inr, _↔_}
+use Prim.Native.Nat.{ℕ, zero, suc, _≤_, _<_}
+use native.Mathlib.Nat.{not-suc-le-zero}
+use native.Mathlib.Omega.{arith}
+use lib.Dec.{leb, eqb}
+use lib.IntN.{ℤ, pos, negsuc, natAbs}
+use lib.ListN.{length}
+use lib.Seq.{ext-getD}
+use borrow.Author.Tests.{le-ltb, le-leb, leb-true, eqb-true, eqb-false, eq-eqb, ne-eqb, not-true, not-false}
+use Rattle.lists.specs.First.{first, FirstFailing}
+use Rattle.lists.specs.Signed.{isZero, isNegative}
+use Rattle.lists.proofs.UptoLaws.{last-or-below, list-singles, list-at}
+use Rattle.lists.proofs.EveryLaws.{entry-in, in-entry}
+use Rattle.lists.proofs.FirstLaws.{Tests, tests-each, count-one, one-count}
+use Rattle.diagram.specs.Lent.{Lent, options, domain, chosen}
+use Rattle.diagram.specs.Numbers.{values}
+use Rattle.diagram.specs.Rules.{outside}
+use Rattle.diagram.proofs.ShapedLaws.{inside, not-inside}
+use Rattle.diagram.proofs.NumberLaws.{value-sums}
+use Rattle.judge.specs.Build.{Fits}
+use Rattle.clauses.specs.Variables.{valueVariable}
+use Rattle.model.specs.Model.{literal, variable, NamedTrue, InRange, NamedFirst, ValueOf, OneValue, BuildOf}
+use Rattle.model.specs.Rules.{badLiteral, badAt, markOf, mark, again, hasValue, unclear, valueOf, namesTrue, buildOf}
+
+-- ---- number 10
+
+bad-outside : (last : ℕ) (l : ℤ) → badLiteral last l ≡ outside 1 last (natAbs l)
+unfolding isZero
+bad-outside last (pos zero) = refl
+bad-outside last (pos (suc n)) = rw (le-ltb (suc n) 1 (omega arith))
+bad-outside last (negsuc n) = rw (le-ltb (suc n) 1 (omega arith))
+
+pub tests-10 : (last : ℕ) (m : List ℤ) → Tests (first (badAt last m) (length m)) (FirstFailing (length m) (InRange last m)) ((k : ℕ) → k < length m → InRange last m k)
+tests-10 last m =
+    tests-each (badAt last m) (InRange last m) (length m)
+    (λ k _ e. inside 1 last (variable m k) (sym (bad-outside last (literal m k)) ∙ e)) (λ k _ e. not-inside 1 last (variable m k) (sym (bad-outside last (literal m k)) ∙ e))
+
+-- ---- the marks
+
+-- a literal marks its variable, and with 1 where it is the variable itself
+marks : (l : ℤ) → markOf l ≡ 0 → ⊥
+unfolding isNegative
+marks (pos n) e = omega arith
+marks (negsuc n) e = omega arith
+
+marks-true : (l : ℤ) → markOf l ≡ 1 → l ≡ pos (natAbs l)
+unfolding isNegative
+marks-true (pos n) e = refl
+marks-true (negsuc n) e = absurd (omega arith)
+
+module _ (m : List ℤ) where
+  unmarked : (k x : ℕ) → mark m k x ≡ 0 → (j : ℕ) → j < k → variable m j ≡ x → ⊥
+  unfolding mark
+  unmarked zero x e j h q = not-suc-le-zero h
+  unmarked (suc k) x e j h q = go (eqb (variable m k) x) refl e (last-or-below j k h) (λ r l. unmarked k x r j l q)
+    where
+      go : (b : Bool) → eqb (variable m k) x ≡ b → cond b (markOf (literal m k)) (mark m k x) ≡ 0 → (j ≡ k) ⊎ (j < k) → (mark m k x ≡ 0 → j < k → ⊥) → ⊥
+      go true t e c r = marks (literal m k) e
+      go false t e (inl i) r = eqb-false (variable m k) x t (ap (variable m) (sym i) ∙ q)
+      go false t e (inr l) r = r e l
+
+  not-named : (k x : ℕ) → ((j : ℕ) → j < k → variable m j ≡ x → ⊥) → mark m k x ≡ 0
+  unfolding mark
+  not-named zero x g = refl
+  not-named (suc k) x g = rw (ne-eqb (variable m k) x (g k (omega arith))) (not-named k x (λ j h. g j (omega arith)))
+
+  -- the first k literals leave a variable unmarked exactly when none of them names it
+  pub unmarked-exactly : (k x : ℕ) → (mark m k x ≡ 0) ↔ ((j : ℕ) → j < k → variable m j ≡ x → ⊥)
+  unmarked-exactly k x = (unmarked k x, not-named k x)
+
+  -- a variable marked true stands among them
+  marked-named : (k x : ℕ) → mark m k x ≡ 1 → (j : ℕ) × (j < k) × (literal m j ≡ pos x)
+  unfolding mark
+  marked-named zero x e = absurd (omega arith)
+  marked-named (suc k) x e = go (eqb (variable m k) x) refl e (marked-named k x)
+    where
+      go : (b : Bool) → eqb (variable m k) x ≡ b → cond b (markOf (literal m k)) (mark m k x) ≡ 1 → (mark m k x ≡ 1 → (j : ℕ) × (j < k) × (literal m j ≡ pos x)) → (j : ℕ) × (j < suc k) × (literal m j ≡ pos x)
+      go true t e r = (k, omega arith, marks-true (literal m k) e ∙ ap pos (eqb-true (variable m k) x t))
+      go false t e r = let w = r e in let h : w .0 < k = w .1 in (w .0, omega arith, w .2)
+
+  -- a literal's mark stays, where none after it names its variable x
+  mark-stays : (k j x : ℕ) → j < k → variable m j ≡ x → ((i : ℕ) → j < i → i < k → variable m i ≡ x → ⊥) → mark m k x ≡ markOf (literal m j)
+  unfolding mark
+  mark-stays zero j x h q g = absurd (not-suc-le-zero h)
+  mark-stays (suc k) j x h q g = go (last-or-below j k h) (λ l. mark-stays k j x l q (λ i a b. g i a (omega arith)))
+    where
+      go : (j ≡ k) ⊎ (j < k) → (j < k → mark m k x ≡ markOf (literal m j)) → mark m (suc k) x ≡ markOf (literal m j)
+      go (inl e) r = rw (eq-eqb (variable m k) x (ap (variable m) (sym e) ∙ q)) (ap (λ (i : ℕ). markOf (literal m i)) (sym e))
+      go (inr l) r = rw (ne-eqb (variable m k) x (g k l (omega arith))) (r l)
+
+module _ (d : Lent) (m : List ℤ) where
+  -- ---- number 11
+
+  again-good : (k : ℕ) → again (values d) m k ≡ false → NamedFirst d m k
+  unfolding again
+  again-good k e h = unmarked-exactly m k (variable m k) .0 (eqb-true _ 0 (not-false _ (rw (le-leb (variable m k) (values d) h) at e)))
+
+  again-not-good : (k : ℕ) → again (values d) m k ≡ true → NamedFirst d m k → ⊥
+  unfolding again
+  again-not-good k e f = go (leb (variable m k) (values d)) refl e
+    where
+      go : (b : Bool) → leb (variable m k) (values d) ≡ b → (b && not (eqb (mark m k (variable m k)) 0)) ≡ true → ⊥
+      go true q e = eqb-false _ 0 (not-true _ e) (unmarked-exactly m k (variable m k) .1 (f (leb-true (variable m k) (values d) q)))
+      go false q e = true≢false (sym e)
+
+  pub tests-11 : Tests (first (again (values d) m) (length m)) (FirstFailing (length m) (NamedFirst d m)) ((k : ℕ) → k < length m → NamedFirst d m k)
+  tests-11 = tests-each (again (values d) m) (NamedFirst d m) (length m) (λ k _. again-good k) (λ k _. again-not-good k)
+
+  -- ---- number 12, where no literal names a value variable again
+
+  module _ (once : (k : ℕ) → k < length m → NamedFirst d m k) where
+    -- a value variable is marked true exactly when the model names it true
+    pub marked-exactly : (x : ℕ) → x ≤ values d → (mark m (length m) x ≡ 1) ↔ NamedTrue m x
+    unfolding isNegative
+    marked-exactly x h = (
+      (λ e. let w = marked-named m (length m) x e in subst (λ (l : ℤ). List·Memᴰ l m) (w .2) (entry-in (pos 0) m (w .0) (w .1))),
+      (λ n. named (in-entry (pos 0) m n)),
+    )
+      where
+        named : (j : ℕ) × (j < length m) × (literal m j ≡ pos x) → mark m (length m) x ≡ 1
+        named w =
+            let q : variable m (w .0) ≡ x = ap natAbs (w .2) in
+            mark-stays m (length m) (w .0) x (w .1) q (λ i l g e. once i g (omega arith) (w .0) l (q ∙ sym e)) ∙ ap markOf (w .2)
+
+    -- value j of option i counts as true exactly when the model names it true
+    true-exactly : (i j : ℕ) → i < options d → j < domain d i → (hasValue d (namesTrue d m) i j ≡ true) ↔ NamedTrue m (valueVariable d i j)
+    true-exactly i j h l =
+        let w = marked-exactly (valueVariable d i j) (omega (arith, value-sums d .room i (options d) h)) in
+        ((λ e. w .0 (eqb-true _ 1 e)), (λ n. eq-eqb _ 1 (w .1 n)))
+
+    -- an option that is clear has its last true value alone, and one that has one value alone is clear and has it last
+    clear-value : (i : ℕ) → i < options d → unclear d (namesTrue d m) i ≡ false → ValueOf d m i (valueOf d (namesTrue d m) i)
+    unfolding unclear valueOf
+    clear-value i h e =
+        let w = count-one (hasValue d (namesTrue d m) i) (domain d i) (eqb-true _ 1 (not-false _ e)) in
+        record { in-range = w .0; named-true = true-exactly i _ h (w .0) .0 (w .1); no-other = λ k l n. w .2 k l (true-exactly i k h l .1 n) }
+
+    value-clear : (i j : ℕ) → i < options d → ValueOf d m i j → (unclear d (namesTrue d m) i ≡ false) × (valueOf d (namesTrue d m) i ≡ j)
+    unfolding unclear valueOf
+    value-clear i j h v =
+        let w = one-count (hasValue d (namesTrue d m) i) (domain d i) j (v .in-range) (true-exactly i j h (v .in-range) .1 (v .named-true)) (λ k l t. v .no-other k l (true-exactly i k h l .0 t)) in
+        (ap not (eq-eqb _ 1 (w .0)), w .1)
+
+    pub tests-12 : Tests (first (unclear d (namesTrue d m)) (options d)) (FirstFailing (options d) (OneValue d m)) ((i : ℕ) → i < options d → OneValue d m i)
+    tests-12 =
+        tests-each (unclear d (namesTrue d m)) (OneValue d m) (options d)
+        (λ i h e. (valueOf d (namesTrue d m) i, clear-value i h e)) (λ i h e w. true≢false (sym e ∙ value-clear i (w .0) h (w .1) .0))
+
+    -- ---- the model's build, where each option has one value
+
+    pub build-said : ((i : ℕ) → i < options d → OneValue d m i) → BuildOf d m (buildOf d m)
+    build-said one =
+        record {
+          whole = list-singles (options d) (valueOf d (namesTrue d m));
+          each = λ i h. let w = one i h in subst (ValueOf d m i) (sym (list-at 0 (valueOf d (namesTrue d m)) (options d) i h ∙ value-clear i (w .0) h (w .1) .1)) (w .1);
+        }
+
+  -- a model says one build, and it fits the diagram
+  pub one-build : (a b : List ℕ) → BuildOf d m a → BuildOf d m b → a ≡ b
+  one-build a b p q = ext-getD 0 a b (p .whole ∙ sym (q .whole)) (λ i h. let l : i < options d = omega (arith, p .whole) in q .each i l .no-other (chosen a i) (p .each i l .in-range) (p .each i l .named-true))
+
+  pub build-fits : (b : List ℕ) → BuildOf d m b → Fits d b
+  build-fits b p = record { whole = p .whole; in-domain = λ i h. p .each i h .in-range }
