@@ -51,12 +51,12 @@ fn is_bad_literal(literal: i32, last: u32) -> bool
     literal < -top
 }
 
-// How many literals are bad: counted to the end, and never left early.
-fn count_bad_literals(literals: &[i32], last: u32) -> usize
-    requires { ⌜ last ≤ 2147483647 ⌝ }
+// How many literals are bad: counted to the end, and never left early; in 32 bits, as wide as the literals.
+fn count_bad_literals(literals: &[i32], last: u32) -> u32
+    requires { ⌜ (last ≤ 2147483647) × (length (now literals) ≤ 4294967295) ⌝ }
     ensures { λ r. ⌜ r ≡ countTo (length (now (literals .entry))) (badAt last (now (literals .entry))) ⌝ }
 {
-    let mut n: usize = 0;
+    let mut n: u32 = 0;
     let mut k = 0;
     while k < literals.len() {
         if is_bad_literal(literals[k], last) {
@@ -81,11 +81,14 @@ fn search_bad_literal(literals: &[i32], last: u32) -> Found
     Found::Nothing
 }
 
-// The first bad literal: searched for only where the count is not 0.
+// The first bad literal: searched for only where the count is not 0, or would not fit.
 fn first_bad_literal(literals: &[i32], last: u32) -> Found
     requires { ⌜ last ≤ 2147483647 ⌝ }
     ensures { λ r. ⌜ r ≡ first (badAt last (now (literals .entry))) (length (now (literals .entry))) ⌝ }
 {
+    if 4294967295 < literals.len() {
+        return search_bad_literal(literals, last);
+    }
     if count_bad_literals(literals, last) == 0 {
         return Found::Nothing;
     }

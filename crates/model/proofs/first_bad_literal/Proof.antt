@@ -10,6 +10,8 @@ first-bad-literal-spec =
     tie.close
     (tie.spec
     (λ c κs. search needs)
-    (λ c. sym (count-none _ _ (sym (c .before .count-bad-literals .ensures) ∙ c .if1 .taken)))
+    (λ c. search needs)
+    (λ c κs. search needs)
+    (λ c. sym (count-none _ _ (sym (c .before .count-bad-literals .ensures) ∙ c .if2 .taken)))
     (λ c κs. search needs)
     (λ c. search needs))
