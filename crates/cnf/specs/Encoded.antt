@@ -1,13 +1,14 @@
 -- What a function promises that writes a list of clauses into a lent buffer: its whole answer, and what the buffer holds
 -- afterwards. Assumes nothing.
-use mathlib.Core.Path.{_≡_, sym, _∙_, ap}
+use mathlib.Core.Path.{_≡_, ap}
 use mathlib.Core.List.{List, [], _∷_}
 use Prim.Native.Nat.{ℕ}
 use lib.ListN.{length, getD}
 use lib.IntN.{ℤ}
 use Rattle.lists.specs.Buffer.{over}
-use Rattle.refusal.specs.Rules.{Rule, chain}
-use Rattle.refusal.specs.Said.{Said, refused, result, saying, leaving}
+use Rattle.refusal.specs.Rules.{Rule}
+use Rattle.refusal.specs.Said.{Said, refused, result}
+use Rattle.refusal.specs.Answered.{AnsweredBy, answered-once}
 use Rattle.refusal.proofs.SaidLaws.{refused-one}
 use Rattle.cnf.specs.Clause.{Clause, words}
 use Rattle.cnf.specs.declared.Tally.{Tally}
@@ -33,9 +34,8 @@ encodedSaid (Refused r) = refused r
 
 -- the answer is the first refusal of the rules that is due, and the buffer is kept; or else the words of the clauses stand
 -- at the buffer's front, the rest of it is kept, and the answer counts them
-pub record EncodedBy (rules : List Rule) (cs : List Clause) (last : ℕ) (before : List ℤ) (answer : EncodeAnswer) (after : List ℤ) : Type 0 where
-  pub says : encodedSaid (answer .outcome) ≡ saying (chain rules) (tallySaid (tallyOf cs last))
-  pub buffer : after ≡ leaving (chain rules) (over (words cs) before) before
+abbrev pub EncodedBy : List Rule → List Clause → ℕ → List ℤ → EncodeAnswer → List ℤ → Type 0
+EncodedBy rules cs last before answer after = AnsweredBy encodedSaid rules (tallySaid (tallyOf cs last)) (over (words cs) before) before (answer .outcome) after
 
 pub tally-same : (w c v w′ c′ v′ : ℕ) → w ≡ w′ → c ≡ c′ → v ≡ v′ → tally w c v ≡ tally w′ c′ v′
 tally-same w c v w′ c′ v′ p q r = rw (p, q, r)
@@ -56,7 +56,4 @@ encoded-said-once (Refused r) (Refused s) p = ap Refused (refused-one r s p)
 
 -- any two outcomes that the promise allows are equal: the answers, and what the buffer holds
 pub encoded-one-outcome : (rules : List Rule) (cs : List Clause) (last : ℕ) (before : List ℤ) (a b : EncodeAnswer) (after after′ : List ℤ) → EncodedBy rules cs last before a after → EncodedBy rules cs last before b after′ → (a ≡ b) × (after ≡ after′)
-encoded-one-outcome rules cs last before a b after after′ p q = (
-  ap (λ (o : Encoded). record { outcome = o }) (encoded-said-once (a .outcome) (b .outcome) (p .says ∙ sym (q .says))),
-  p .buffer ∙ sym (q .buffer),
-)
+encoded-one-outcome rules cs last before a b after after′ p q = let w = answered-once encoded-said-once p q in (ap (λ (o : Encoded). record { outcome = o }) (w .0), w .1)

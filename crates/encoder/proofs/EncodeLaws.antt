@@ -8,6 +8,7 @@ use lib.ListN.{length}
 use lib.IntN.{ℤ}
 use Rattle.refusal.specs.Rules.{roomRule, chain}
 use Rattle.refusal.specs.Table.{roomRow, ExactlyWhen}
+use Rattle.refusal.specs.declared.Refusal.{Refusal}
 use Rattle.refusal.specs.declared.Verdict.the-variants.{Passed}
 use Rattle.refusal.proofs.RulesLaws.{passes, passed}
 use Rattle.refusal.proofs.TableLaws.{Faithful, faithful-append}
@@ -16,7 +17,7 @@ use Rattle.cnf.specs.Encoded.{tally-same, tallyOf}
 use Rattle.cnf.specs.declared.Tally.{Tally}
 use Rattle.cnf.specs.declared.Encoded.the-variants.{Written, Refused}
 use Rattle.cnf.specs.declared.EncodeAnswer.{EncodeAnswer}
-use Rattle.cnf.proofs.EncodedLaws.{encoded-exactly-when, written-exactly}
+use Rattle.cnf.proofs.EncodedLaws.{encoded-exactly-when, encoded-keeps, written-exactly}
 use Rattle.diagram.specs.Lent.{Lent}
 use Rattle.diagram.specs.Sound.{Sound, checkTable}
 use Rattle.diagram.specs.Rules.{checkRules}
@@ -50,6 +51,10 @@ module _ (e : Edition) (d : Lent) where
     -- each number from 1 to 7 is given exactly when its row is due and none before it is
     pub encode-exactly-when : ExactlyWhen (encodeTable e d (length before)) (λ r. answer .outcome ≡ Refused r)
     encode-exactly-when = encoded-exactly-when (clauses e d) (lastVariable e d) before (encodeRules e d (length before)) answer after promise (encodeTable e d (length before)) (encode-faithful (length before)) tt
+
+    -- a refusal keeps the buffer
+    pub encode-keeps : (r : Refusal) → answer .outcome ≡ Refused r → after ≡ before
+    encode-keeps = encoded-keeps (clauses e d) (lastVariable e d) before (encodeRules e d (length before)) answer after promise
 
     -- "written" is answered with counts exactly when the diagram is sound, its words fit, and the counts are its own
     pub encode-written : (t : Tally) → (answer .outcome ≡ Written t) ↔ ((Sound d × (needed e d ≤ length before)) × (t ≡ tallyOf (clauses e d) (lastVariable e d)))

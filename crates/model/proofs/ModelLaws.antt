@@ -6,20 +6,21 @@ use mathlib.Core.List.{List, [], _∷_, _++_}
 use mathlib.Core.Logic.{_↔_}
 use Prim.Native.Nat.{ℕ, _≤_, _<_}
 use lib.IntN.{ℤ}
-use lib.ListN.{length, take, drop}
+use lib.ListN.{length, getD, take, drop}
 use borrow.Author.Tests.{eqb-true, eqb-false, not-true, not-false}
 use Rattle.lists.specs.First.{foundIf}
 use Rattle.lists.specs.Buffer.{over}
 use Rattle.lists.proofs.FirstLaws.{Tests, tests-one}
 use Rattle.lists.proofs.BufferLaws.{over-take, over-drop}
 use Rattle.refusal.specs.Rules.{Rule, roomRule, chain}
+use Rattle.refusal.specs.Said.{Said, result}
 use Rattle.refusal.specs.Table.{roomRow, ExactlyWhen}
 use Rattle.refusal.specs.declared.Refusal.{Refusal}
-use Rattle.refusal.specs.declared.Verdict.the-variants.{Passed, Refused as Refusing}
+use Rattle.refusal.specs.declared.Verdict.the-variants.{Passed}
 use Rattle.refusal.proofs.RulesLaws.{passes, passed, not-due}
-use Rattle.refusal.proofs.SaidLaws.{refused-as, said-passed}
-use Rattle.refusal.proofs.TableLaws.{Faithful, faithful-append, exactly-when}
+use Rattle.refusal.proofs.TableLaws.{Faithful, faithful-append}
 use Rattle.refusal.proofs.RoomLaws.{room-faithful, long-enough, fits}
+use Rattle.refusal.proofs.AnsweredLaws.{answered-exactly-when, refusal-keeps, result-exactly, result-leaves}
 use Rattle.diagram.specs.Lent.{Lent, options, chosen, Allows, RootAllows}
 use Rattle.diagram.specs.Sound.{Sound, checkTable}
 use Rattle.diagram.specs.Rules.{checkRules}
@@ -125,40 +126,28 @@ module _ (d : Lent) (m : List ℤ) where
       abbrev rules : List Rule
       rules = modelRules d m e (length before)
 
-      refused-exactly : (r : Refusal) → (answer .outcome ≡ Refused r) ↔ (chain rules ≡ Refusing r)
-      refused-exactly = refused-as modelSaid model-said-once Refused (λ r. refl) (answer .outcome) (chain rules) _ _ (promise .says)
-
       -- each of the numbers 1 to 7 and 10 to 13 is given exactly when its row is due and none before it is
       pub model-exactly-when : ExactlyWhen (modelTable d m e (length before)) (λ r. answer .outcome ≡ Refused r)
-      model-exactly-when = exactly-when rules (modelTable d m e (length before)) (model-faithful (length before)) tt refused-exactly
+      model-exactly-when = answered-exactly-when modelSaid model-said-once Refused (λ r. refl) rules _ _ (answer .outcome) promise (modelTable d m e (length before)) (model-faithful (length before)) tt
 
       -- a refusal keeps the list
-      pub refusal-keeps : (r : Refusal) → answer .outcome ≡ Refused r → after ≡ before
-      refusal-keeps r q = promise .list ∙ rw (refused-exactly r .0 q)
-
-      built-said : chain rules ≡ Passed → answer .outcome ≡ Built (options d)
-      built-said p = model-said-once (answer .outcome) _ (promise .says ∙ rw p)
-
-      built-passed : {n : ℕ} → answer .outcome ≡ Built n → chain rules ≡ Passed
-      built-passed q = said-passed (chain rules) _ _ _ _ (sym (ap modelSaid q) ∙ promise .says)
-
-      same-count : {n : ℕ} → chain rules ≡ Passed → answer .outcome ≡ Built n → n ≡ options d
-      same-count p q = let z = sym q ∙ built-said p in cc
+      pub model-keeps : (r : Refusal) → answer .outcome ≡ Refused r → after ≡ before
+      model-keeps = refusal-keeps modelSaid model-said-once Refused (λ r. refl) rules _ _ (answer .outcome) promise
 
       -- "built" is answered with a count exactly when the diagram is sound, its options fit into the list, the model reads
       -- as a build, and the count is the number of options
       pub built-exactly : (n : ℕ) → (answer .outcome ≡ Built n) ↔ ((Sound d × (options d ≤ length before)) × ((build : List ℕ) × ReadsAs d m e build) × (n ≡ options d))
-      built-exactly n = (
-        (λ q. let p = built-passed q in let w = all-passed (length before) .0 p in (w .0, w .1, same-count p q)),
-        (λ w. built-said (all-passed (length before) .1 (w .0, w .1)) ∙ ap Built (sym (w .2))),
-      )
+      built-exactly n =
+          let r = result-exactly modelSaid model-said-once Refused (λ r. refl) rules _ _ (answer .outcome) promise (Built n) _ _ refl in (
+            (λ q. let p = r .0 q in let w = all-passed (length before) .0 (p .0) in (w .0, w .1, ap (λ (s : Said). getD (s .values) 0 0) (p .1))),
+            (λ w. r .1 (all-passed (length before) .1 (w .0, w .1), ap (λ (k : ℕ). result (k ∷ [])) (w .2))),
+          )
 
       -- the build is exactly the one that the model says, and what lies past it is kept
       pub built-list : (n : ℕ) → answer .outcome ≡ Built n → (build : List ℕ) → BuildOf d m build → (take n after ≡ build) × (drop n after ≡ drop n before)
       built-list n q build b =
           let w = built-exactly n .0 q in
-          let p = built-passed q in
           let s : buildOf d m ≡ build = one-build d m (buildOf d m) build (build-said d m (w .1 .1 .named-first) (each-one build b)) b in
-          let a : after ≡ over build before = promise .list ∙ rw p (ap (λ (l : List ℕ). over l before) s) in
+          let a : after ≡ over build before = result-leaves modelSaid model-said-once Refused (λ r. refl) rules _ _ (answer .outcome) promise (all-passed (length before) .1 (w .0, w .1)) ∙ ap (λ (l : List ℕ). over l before) s in
           let c : n ≡ length build = w .2 ∙ sym (b .whole) in
           rw (c, a) (over-take build before, over-drop build before)

@@ -10,12 +10,13 @@ use Rattle.lists.specs.First.{foundIf}
 use Rattle.lists.specs.Buffer.{over}
 use Rattle.lists.specs.declared.Found.the-variants.{At}
 use Rattle.refusal.specs.Rules.{Rule, rule, refusal, roomRule, chain}
-use Rattle.refusal.specs.Said.{saying, leaving}
+use Rattle.refusal.specs.Said.{result}
 use Rattle.refusal.specs.declared.Refusal.{Refusal}
 use Rattle.refusal.specs.declared.Verdict.{Verdict}
 use Rattle.refusal.specs.declared.Verdict.the-variants.{Passed, Refused as Refusing}
 use Rattle.refusal.proofs.RulesLaws.{refuses, passes, tested, not-tested, not-due}
 use Rattle.refusal.proofs.RoomLaws.{too-short, long-enough}
+use Rattle.refusal.proofs.AnsweredLaws.{by-refusal, by-result, first-refuse, goes-on}
 use Rattle.diagram.specs.Lent.{Lent, lent, options}
 use Rattle.diagram.specs.Numbers.{firstValue}
 use Rattle.diagram.specs.Rules.{checkRules}
@@ -23,7 +24,7 @@ use Rattle.judge.specs.Build.{Fits}
 use Rattle.judge.specs.Promise.{allowsTest}
 use Rattle.clauses.specs.Clauses.{Edition, lastVariable}
 use Rattle.model.specs.Rules.{unclear, valueOf, buildOf, valueRules, literalRules, soundRules, modelRules}
-use Rattle.model.specs.Promise.{ReadBy, ModelPromise}
+use Rattle.model.specs.Promise.{modelSaid, ReadBy, ModelPromise}
 use Rattle.model.specs.declared.ModelRead.the-variants.{Built, Refused}
 use Rattle.model.specs.declared.ModelAnswer.{ModelAnswer}
 use Rattle.model.proofs.SaidLaws.{tests-11, tests-12, build-said, build-fits}
@@ -63,39 +64,33 @@ module _ (d : Lent) (m : List ℤ) (last : ℕ) where
       unfolding literalRules
       then-not-allowed a e = passes (valueRules d m last) _ said q (tested 13 [] (ap not a) e)
 
-  module _ (before : List ℕ) where
-    -- an answer by some rules is one by others with the same verdict
-    answered-as : {rules others : List Rule} {answer : ModelAnswer} {after : List ℕ} → chain rules ≡ chain others → ReadBy rules d m before answer after → ReadBy others d m before answer after
-    answered-as w j =
-        record {
-          says = j .says ∙ ap (λ (v : Verdict). saying v (options d ∷ [])) w;
-          list = j .list ∙ ap (λ (v : Verdict). leaving v (over (buildOf d m) before) before) w;
-        }
+  -- ---- of a sound diagram: the list is too short; or a rule of the literals is due, or none
 
-    -- ---- of a sound diagram
+  module _ (before : List ℕ) where
+    abbrev roomRules : List Rule
+    roomRules = roomRule (options d) (length before) ∷ []
 
     pub read-short : length before < options d → ReadBy (soundRules d m last (length before)) d m before (record { outcome = Refused (refusal 7 (options d)) }) before
     unfolding soundRules
-    read-short h = let w = sym (refuses (roomRule (options d) (length before) ∷ []) (literalRules d m last) refl (too-short (options d) (length before) h)) ∙ too-short (options d) (length before) h in record { says = rw w; list = rw w }
+    read-short h = first-refuse modelSaid _ _ before roomRules (literalRules d m last) refl (too-short (options d) (length before) h)
 
-    module _ (h : options d ≤ length before) where
-      room-passes : chain (literalRules d m last) ≡ chain (soundRules d m last (length before))
-      unfolding soundRules
-      room-passes = passes (roomRule (options d) (length before) ∷ []) (literalRules d m last) refl (long-enough (options d) (length before) h) refl
+    pub read-room : options d ≤ length before → {answer : ModelAnswer} {after : List ℕ} → ReadBy (literalRules d m last) d m before answer after → ReadBy (soundRules d m last (length before)) d m before answer after
+    unfolding soundRules
+    read-room h j = goes-on modelSaid _ _ before roomRules (literalRules d m last) (long-enough (options d) (length before) h) j
 
-      pub read-refused : {r : Refusal} → chain (literalRules d m last) ≡ Refusing r → ReadBy (soundRules d m last (length before)) d m before (record { outcome = Refused r }) before
-      read-refused q = answered-as room-passes (record { says = rw q; list = rw q })
+    pub read-refused : {r : Refusal} → chain (literalRules d m last) ≡ Refusing r → ReadBy (literalRules d m last) d m before (record { outcome = Refused r }) before
+    read-refused q = by-refusal modelSaid _ _ before refl q
 
-      pub read-built : chain (literalRules d m last) ≡ Passed → {after : List ℕ} → after ≡ over (buildOf d m) before → ReadBy (soundRules d m last (length before)) d m before (record { outcome = Built (options d) }) after
-      read-built q b = answered-as room-passes (record { says = rw q; list = rw q b })
+    pub read-built : {n : ℕ} → n ≡ options d → chain (literalRules d m last) ≡ Passed → {after : List ℕ} → after ≡ over (buildOf d m) before → ReadBy (literalRules d m last) d m before (record { outcome = Built n }) after
+    read-built e q b = by-result modelSaid _ _ before (ap (λ (n : ℕ). result (n ∷ [])) e) q b
 
 -- ---- of any
 
 module _ (e : Edition) (d : Lent) (m : List ℤ) (before : List ℕ) where
   pub read-refuses : {r : Refusal} → chain (checkRules d) ≡ Refusing r → ModelPromise e d m before (record { outcome = Refused r }) before
   unfolding modelRules
-  read-refuses q = let w = sym (refuses (checkRules d) (soundRules d m (lastVariable e d) (length before)) refl q) ∙ q in record { says = rw w; list = rw w }
+  read-refuses q = first-refuse modelSaid _ _ before (checkRules d) _ refl q
 
   pub read-goes-on : {answer : ModelAnswer} {after : List ℕ} → chain (checkRules d) ≡ Passed → ReadBy (soundRules d m (lastVariable e d) (length before)) d m before answer after → ModelPromise e d m before answer after
   unfolding modelRules
-  read-goes-on q j = answered-as d m (lastVariable e d) before (passes (checkRules d) (soundRules d m (lastVariable e d) (length before)) refl q refl) j
+  read-goes-on q j = goes-on modelSaid _ _ before (checkRules d) _ q j

@@ -1,12 +1,13 @@
 -- What `read_model` promises for every input: its whole answer, and what the lent list holds afterwards. Assumes nothing.
-use mathlib.Core.Path.{_≡_, sym, _∙_, ap}
+use mathlib.Core.Path.{_≡_, ap}
 use mathlib.Core.List.{List, [], _∷_}
 use Prim.Native.Nat.{ℕ}
 use lib.IntN.{ℤ}
 use lib.ListN.{length, getD}
 use Rattle.lists.specs.Buffer.{over}
-use Rattle.refusal.specs.Rules.{Rule, chain}
-use Rattle.refusal.specs.Said.{Said, refused, result, saying, leaving}
+use Rattle.refusal.specs.Rules.{Rule}
+use Rattle.refusal.specs.Said.{Said, refused, result}
+use Rattle.refusal.specs.Answered.{AnsweredBy, answered-once}
 use Rattle.refusal.proofs.SaidLaws.{refused-one}
 use Rattle.diagram.specs.Lent.{Lent, options}
 use Rattle.clauses.specs.Clauses.{Edition}
@@ -22,9 +23,8 @@ modelSaid (Refused r) = refused r
 
 -- the answer is the first refusal of the rules that is due, and the list is kept; or else the build stands at the list's
 -- front, the rest of it is kept, and the answer gives the number of options
-pub record ReadBy (rules : List Rule) (d : Lent) (m : List ℤ) (before : List ℕ) (answer : ModelAnswer) (after : List ℕ) : Type 0 where
-  pub says : modelSaid (answer .outcome) ≡ saying (chain rules) (options d ∷ [])
-  pub list : after ≡ leaving (chain rules) (over (buildOf d m) before) before
+abbrev pub ReadBy : List Rule → Lent → List ℤ → List ℕ → ModelAnswer → List ℕ → Type 0
+ReadBy rules d m before answer after = AnsweredBy modelSaid rules (options d ∷ []) (over (buildOf d m) before) before (answer .outcome) after
 
 abbrev pub ModelPromise : Edition → Lent → List ℤ → List ℕ → ModelAnswer → List ℕ → Type 0
 ModelPromise e d m before = ReadBy (modelRules d m e (length before)) d m before
@@ -38,7 +38,4 @@ model-said-once (Refused r) (Refused s) p = ap Refused (refused-one r s p)
 
 -- any two outcomes that the promise allows are equal: the answers, and what the list holds
 pub model-one-outcome : (e : Edition) (d : Lent) (m : List ℤ) (before : List ℕ) (a b : ModelAnswer) (after after′ : List ℕ) → ModelPromise e d m before a after → ModelPromise e d m before b after′ → (a ≡ b) × (after ≡ after′)
-model-one-outcome e d m before a b after after′ p q = (
-  ap (λ (o : ModelRead). record { outcome = o }) (model-said-once (a .outcome) (b .outcome) (p .says ∙ sym (q .says))),
-  p .list ∙ sym (q .list),
-)
+model-one-outcome e d m before a b after after′ p q = let w = answered-once model-said-once p q in (ap (λ (o : ModelRead). record { outcome = o }) (w .0), w .1)

@@ -299,7 +299,35 @@ fn copy_out(build: &[u32], out: &mut [u32])
     }
 }
 
-// Number 7, and then 10 to 13; the build goes into `out` only where all pass.
+// Numbers 10 to 13: the build is made in `build`, and goes into `out` only where all pass.
+fn read_into(
+    domains: &[u32],
+    layers: &[u32],
+    targets: &[u32],
+    literals: &[i32],
+    counts: Diagram,
+    build: &mut [u32],
+    out: &mut [u32],
+) -> ModelAnswer
+    requires { ⌜ Sound (lent (now domains) (now layers) (now targets)) ⌝ }
+    requires { ⌜ counts ≡ countsOf (lent (now domains) (now layers) (now targets)) ⌝ }
+    requires { ⌜ (length (now build) ≡ length (now domains)) × (length (now domains) ≤ length (now out)) ⌝ }
+    ensures { λ r. ⌜ ReadBy (literalRules (lent (now (domains .entry)) (now (layers .entry)) (now (targets .entry))) (now (literals .entry)) (lastVariable edition1 (lent (now (domains .entry)) (now (layers .entry)) (now (targets .entry))))) (lent (now (domains .entry)) (now (layers .entry)) (now (targets .entry))) (now (literals .entry)) (now (out .entry)) r (now (out .exit)) ⌝ }
+{
+    match read_build(domains, layers, targets, literals, counts, build) {
+        Verdict::Refused(r) => ModelAnswer {
+            outcome: ModelRead::Refused(r),
+        },
+        Verdict::Passed => {
+            copy_out(build, out);
+            ModelAnswer {
+                outcome: ModelRead::Built(build.len()),
+            }
+        }
+    }
+}
+
+// Number 7, and then 10 to 13, with room for the build while it is not known to be allowed.
 fn read_sound(
     domains: &[u32],
     layers: &[u32],
@@ -322,17 +350,15 @@ fn read_sound(
         };
     }
     let mut build = no_build();
-    match read_build(domains, layers, targets, literals, counts, &mut build[..n]) {
-        Verdict::Refused(r) => ModelAnswer {
-            outcome: ModelRead::Refused(r),
-        },
-        Verdict::Passed => {
-            copy_out(&build[..n], out);
-            ModelAnswer {
-                outcome: ModelRead::Built(n),
-            }
-        }
-    }
+    read_into(
+        domains,
+        layers,
+        targets,
+        literals,
+        counts,
+        &mut build[..n],
+        out,
+    )
 }
 
 // Checks 1 to 7 and 10 to 13 in order; the model's build then fills the front of `out`, and the answer gives its length.

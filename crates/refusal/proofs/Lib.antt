@@ -3,3 +3,4 @@ pub mod RulesLaws
 pub mod SaidLaws
 pub mod TableLaws
 pub mod RoomLaws
+pub mod AnsweredLaws

@@ -2,3 +2,4 @@
 pub mod Rules
 pub mod Said
 pub mod Table
+pub mod Answered

@@ -1,0 +1,64 @@
+-- How a function comes to an answer by rules, and what its answer tells. Assumes nothing.
+use mathlib.Core.Path.{_≡_, refl, sym, _∙_, ap}
+use mathlib.Core.Logic.{_↔_}
+use mathlib.Core.List.{List, _∷_, _++_}
+use Prim.Native.Nat.{ℕ}
+use lib.Dec.{T}
+use Rattle.refusal.specs.Rules.{Rule, chain}
+use Rattle.refusal.specs.Said.{Said, refused, result, saying, leaving}
+use Rattle.refusal.specs.Answered.{AnsweredBy}
+use Rattle.refusal.specs.Table.{Row, numbers, ExactlyWhen}
+use Rattle.refusal.specs.declared.Refusal.{Refusal}
+use Rattle.refusal.specs.declared.Verdict.{Verdict}
+use Rattle.refusal.specs.declared.Verdict.the-variants.{Passed, Refused}
+use Rattle.refusal.proofs.RulesLaws.{refuses, passes}
+use Rattle.refusal.proofs.SaidLaws.{refused-as, said-passed}
+use Rattle.refusal.proofs.TableLaws.{eachOnce, Faithful, exactly-when}
+
+-- ---- how it comes to its answer
+
+module _ {A B : Type 0} (said : A → Said) (values : List ℕ) (written before : B) where
+  -- a refusal, and a result
+  pub by-refusal : {rules : List Rule} {r : Refusal} {a : A} → said a ≡ refused r → chain rules ≡ Refused r → AnsweredBy said rules values written before a before
+  by-refusal e q = record { says = rw q e; buffer = rw q }
+
+  pub by-result : {rules : List Rule} {a : A} {after : B} → said a ≡ result values → chain rules ≡ Passed → after ≡ written → AnsweredBy said rules values written before a after
+  by-result e q b = record { says = rw q e; buffer = rw q b }
+
+  -- the first rules refuse; or they pass, and the later ones decide
+  module _ (first later : List Rule) where
+    pub first-refuse : {r : Refusal} {a : A} → said a ≡ refused r → chain first ≡ Refused r → AnsweredBy said (first ++ later) values written before a before
+    first-refuse e q = by-refusal e (sym (refuses first later refl q) ∙ q)
+
+    pub goes-on : {a : A} {after : B} → chain first ≡ Passed → AnsweredBy said later values written before a after → AnsweredBy said (first ++ later) values written before a after
+    goes-on q j =
+        let w = passes first later refl q refl in
+        record {
+          says = j .says ∙ ap (λ (v : Verdict). saying v values) w;
+          buffer = j .buffer ∙ ap (λ (v : Verdict). leaving v written before) w;
+        }
+
+-- ---- what it tells, where no two answers say the same, `no` makes a refusal an answer, and a result has values
+
+module _ {A B : Type 0} (said : A → Said) (once : (a b : A) → said a ≡ said b → a ≡ b) (no : Refusal → A) (says-no : (r : Refusal) → said (no r) ≡ refused r)
+    (rules : List Rule) (v : ℕ) (vs : List ℕ) {written before : B} (answer : A) {after : B} (promise : AnsweredBy said rules (v ∷ vs) written before answer after) where
+  refused-exactly : (r : Refusal) → (answer ≡ no r) ↔ (chain rules ≡ Refused r)
+  refused-exactly = refused-as said once no says-no answer (chain rules) v vs (promise .says)
+
+  -- where the rules compute a table: each number is given exactly when its row is due and none before it is
+  pub answered-exactly-when : (table : List Row) → Faithful rules table → T (eachOnce (numbers table)) → ExactlyWhen table (λ r. answer ≡ no r)
+  answered-exactly-when table f t = exactly-when rules table f t refused-exactly
+
+  -- a refusal keeps the buffer
+  pub refusal-keeps : (r : Refusal) → answer ≡ no r → after ≡ before
+  refusal-keeps r q = promise .buffer ∙ rw (refused-exactly r .0 q)
+
+  -- a result is answered exactly when the rules pass, and it is this one; the buffer then holds what is written
+  pub result-exactly : (given : A) (u : ℕ) (us : List ℕ) → said given ≡ result (u ∷ us) → (answer ≡ given) ↔ ((chain rules ≡ Passed) × (said given ≡ result (v ∷ vs)))
+  result-exactly given u us e = (
+    (λ q. let p = said-passed (chain rules) u us v vs (sym (ap said q ∙ e) ∙ promise .says) in (p, ap said (sym q) ∙ promise .says ∙ rw p)),
+    (λ w. once answer given (promise .says ∙ rw (w .0) (sym (w .1)))),
+  )
+
+  pub result-leaves : chain rules ≡ Passed → after ≡ written
+  result-leaves p = promise .buffer ∙ rw p
