@@ -6,7 +6,7 @@ use mathlib.Core.List.{List, List·Memᴰ·head}
 use Prim.Native.Nat.{ℕ, suc, _+_, _≤_, _<_}
 use native.Mathlib.Omega.{arith}
 use lib.IntN.{ℤ, pos, natAbs}
-use lib.ListN.{length, take, drop}
+use lib.ListN.{length, take}
 use Rattle.lists.proofs.UptoLaws.{list-singles, list-at, in-list}
 use Rattle.lists.proofs.EveryLaws.{every-none, every-more, every-upTo}
 use Rattle.cnf.specs.Clause.{Clause, plain, says, Setting, holds, Satisfies}

@@ -1,6 +1,6 @@
 -- How `read_model` comes to its answer: the diagram is refused, the list is too short, a literal, an option or the build is
 -- refused, or the build goes out. Assumes nothing.
-use mathlib.Core.Path.{_≡_, refl, sym, _∙_, ap}
+use mathlib.Core.Path.{_≡_, refl, ap}
 use mathlib.Core.Bool.{true, false, not}
 use mathlib.Core.List.{List, [], _∷_}
 use Prim.Native.Nat.{ℕ, _≤_, _<_}

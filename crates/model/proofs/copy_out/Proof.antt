@@ -1,5 +1,4 @@
 -- `model::copy_out` meets its contract: before turn i the first i values stand at the front. Assumes nothing.
-use mathlib.Core.Path.{_≡_, sym}
 use mathlib.Core.List.{[], _∷_}
 use Prim.Native.Nat.{_≤_, _-_}
 use native.Mathlib.Omega.{arith}

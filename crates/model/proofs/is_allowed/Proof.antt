@@ -8,7 +8,6 @@ use borrow.Author.Needs.{needs}
 use Rattle.refusal.specs.declared.Refusal.{Refusal}
 use Rattle.diagram.specs.Lent.{lent}
 use Rattle.judge.specs.Promise.{allowsTest}
-use Rattle.judge.specs.declared.Judged.{Judged}
 use Rattle.judge.specs.declared.Judged.the-variants.{Allowed, NotAllowed, Refused}
 use Rattle.judge.proofs.JudgeLaws.{judged-by-test}
 use Rattle.model.proofs.is_allowed.Statement.{statement}

@@ -1,6 +1,6 @@
 -- `model::is_bad_literal` meets its contract: the literal is compared as it is, and only V is negated. Assumes nothing.
 use mathlib.Core.Path.{_≡_, sym, _∙_}
-use mathlib.Core.Bool.{true, false}
+use mathlib.Core.Bool.{false}
 use Prim.Native.Nat.{_<_, _^_}
 use native.Mathlib.Omega.{arith}
 use borrow.Author.Needs.{needs}

@@ -1,5 +1,5 @@
 -- `model::read_values` meets its contract: each number is looked for over the whole model before the next. Assumes nothing.
-use mathlib.Core.Path.{_≡_, refl, sym, _∙_, ap, subst}
+use mathlib.Core.Path.{_≡_, sym, _∙_}
 use mathlib.Core.List.{List, [], _∷_}
 use native.Mathlib.Omega.{arith}
 use lib.IntN.{ℤ}
@@ -7,7 +7,6 @@ use lib.ListN.{length}
 use borrow.Author.Needs.{needs}
 use Rattle.lists.specs.First.{first}
 use Rattle.refusal.specs.Rules.{rule, chain}
-use Rattle.refusal.specs.declared.Verdict.the-variants.{Passed}
 use Rattle.refusal.proofs.RulesLaws.{refuses, passes, not-due, never-both}
 use Rattle.diagram.specs.Lent.{Lent, lent, options}
 use Rattle.diagram.specs.Numbers.{values}

@@ -9,7 +9,6 @@ use mir.ValLaws.{toZ-ofZ}
 use Rattle.lists.specs.First.{first}
 use Rattle.lists.specs.declared.Found.the-variants.{Nothing}
 use Rattle.lists.proofs.FirstLaws.{start, pass, stop, done}
-use Rattle.model.specs.Model.{literal}
 use Rattle.model.specs.Rules.{badLiteral, badAt}
 use Rattle.model.proofs.search_bad_literal.Statement.{statement}
 use Rattle.model.proofs.search_bad_literal.Tie as tie
