@@ -1,6 +1,6 @@
 -- How `read_model` comes to its answer: the diagram is refused, the list is too short, a literal, an option or the build is
 -- refused, or the build goes out. Assumes nothing.
-use mathlib.Core.Path.{_≡_, refl, ap}
+use mathlib.Core.Path.{_≡_, refl, ap, subst}
 use mathlib.Core.Bool.{true, false, not}
 use mathlib.Core.List.{List, [], _∷_}
 use Prim.Native.Nat.{ℕ, _≤_, _<_}
@@ -74,9 +74,9 @@ module _ (d : Lent) (m : List ℤ) (last : ℕ) where
     unfolding soundRules
     read-short h = first-refuse modelSaid _ _ before roomRules (literalRules d m last) refl (too-short (options d) (length before) h)
 
-    pub read-room : options d ≤ length before → {answer : ModelAnswer} {after : List ℕ} → ReadBy (literalRules d m last) d m before answer after → ReadBy (soundRules d m last (length before)) d m before answer after
+    pub read-room : options d ≤ length before → {v : ℕ} → v ≡ last → (answer : ModelAnswer) (after : List ℕ) → ReadBy (literalRules d m v) d m before answer after → ReadBy (soundRules d m last (length before)) d m before answer after
     unfolding soundRules
-    read-room h j = goes-on modelSaid _ _ before roomRules (literalRules d m last) (long-enough (options d) (length before) h) j
+    read-room h e answer after j = goes-on modelSaid _ _ before roomRules (literalRules d m last) (long-enough (options d) (length before) h) (subst (λ (v : ℕ). ReadBy (literalRules d m v) d m before answer after) e j)
 
     pub read-refused : {r : Refusal} → chain (literalRules d m last) ≡ Refusing r → ReadBy (literalRules d m last) d m before (record { outcome = Refused r }) before
     read-refused q = by-refusal modelSaid _ _ before refl q

@@ -34,6 +34,11 @@ pub struct ModelAnswer {
     pub outcome: ModelRead,
 }
 
+// As many value variables as there can be, and as many options.
+const VALUES: usize = (Diagram::MAX_OPTIONS * Diagram::MAX_DOMAIN) as usize;
+
+const OPTIONS: usize = Diagram::MAX_OPTIONS as usize;
+
 // ---- number 10
 
 // The literal is compared at both ends, and not negated.
@@ -116,14 +121,14 @@ fn mark_of(literal: i32) -> u8
 }
 
 // A mark for each value variable that there can be, and none given yet.
-fn no_marks() -> [u8; 2048]
+fn no_marks() -> [u8; VALUES]
     ensures { λ r. ⌜ r ≡ replicate 2048 0 ⌝ }
 {
-    [0u8; 2048]
+    [0u8; VALUES]
 }
 
 // Marks the variable x, unless it is no value variable or has a mark already; true where it has one.
-fn note(marks: &mut [u8; 2048], values: usize, x: usize, mark: u8) -> bool
+fn note(marks: &mut [u8; VALUES], values: usize, x: usize, mark: u8) -> bool
     requires { ⌜ (values ≤ 2048) × (1 ≤ x) × (length (now marks) ≡ 2048) ⌝ }
     ensures { λ r. ⌜ r ≡ isMarked values x (now (marks .entry)) ⌝ }
     ensures { λ r. ⌜ now (marks .exit) ≡ noted values x mark (now (marks .entry)) ⌝ }
@@ -139,7 +144,7 @@ fn note(marks: &mut [u8; 2048], values: usize, x: usize, mark: u8) -> bool
 }
 
 // The first literal that names a value variable again; where there is none, the marks say what the model says.
-fn first_again(literals: &[i32], values: usize, marks: &mut [u8; 2048]) -> Found
+fn first_again(literals: &[i32], values: usize, marks: &mut [u8; VALUES]) -> Found
     requires { ⌜ (values ≤ 2048) × Ranged (now literals) ⌝ }
     requires { ⌜ Marks values (now literals) 0 (now marks) ⌝ }
     ensures { λ r. ⌜ r ≡ first (again values (now (literals .entry))) (length (now (literals .entry))) ⌝ }
@@ -164,7 +169,7 @@ fn first_again(literals: &[i32], values: usize, marks: &mut [u8; 2048]) -> Found
 // ---- number 12
 
 // The value of an option that has exactly one true, where `before` values stand before its own.
-fn one_value(marks: &[u8; 2048], before: usize, count: usize) -> Found
+fn one_value(marks: &[u8; VALUES], before: usize, count: usize) -> Found
     requires { ⌜ (before + count ≤ 2048) × (length (now marks) ≡ 2048) ⌝ }
     ensures { λ r. ⌜ r ≡ sole (λ (j : ℕ). markedTrue (now (marks .entry)) (before + j)) count ⌝ }
 {
@@ -186,7 +191,7 @@ fn one_value(marks: &[u8; 2048], before: usize, count: usize) -> Found
 }
 
 // The first option that has not exactly one true value; where there is none, each option's value.
-fn first_unclear(domains: &[u32], marks: &[u8; 2048], build: &mut [u32]) -> Found
+fn first_unclear(domains: &[u32], marks: &[u8; VALUES], build: &mut [u32]) -> Found
     requires { ⌜ (valueCount (lent (now domains) [] []) ≤ 2048) × (length (now build) ≡ length (now domains)) × (length (now marks) ≡ 2048) ⌝ }
     ensures { λ r. ⌜ r ≡ first (unclear (lent (now (domains .entry)) [] []) (markedTrue (now (marks .entry)))) (length (now (domains .entry))) ⌝ }
     ensures { λ r. ⌜ (r ≡ Found.Nothing → now (build .exit) ≡ valuesTo (lent (now (domains .entry)) [] []) (markedTrue (now (marks .entry))) (length (now (domains .entry)))) ⌝ }
@@ -252,23 +257,23 @@ fn is_allowed(domains: &[u32], layers: &[u32], targets: &[u32], build: &[u32]) -
     }
 }
 
-// Numbers 10 to 13; where they pass, the build.
+// Numbers 10 to 13, where V is `last`; where they pass, the build.
 fn read_build(
     domains: &[u32],
     layers: &[u32],
     targets: &[u32],
     literals: &[i32],
-    counts: Diagram,
+    values: usize,
+    last: u32,
     build: &mut [u32],
 ) -> Verdict
     requires { ⌜ Sound (lent (now domains) (now layers) (now targets)) ⌝ }
-    requires { ⌜ counts ≡ countsOf (lent (now domains) (now layers) (now targets)) ⌝ }
+    requires { ⌜ (values ≡ valueCount (lent (now domains) (now layers) (now targets))) × (last ≤ 2147483647) ⌝ }
     requires { ⌜ length (now build) ≡ length (now domains) ⌝ }
-    ensures { λ r. ⌜ r ≡ chain (literalRules (lent (now (domains .entry)) (now (layers .entry)) (now (targets .entry))) (now (literals .entry)) (lastVariable edition1 (lent (now (domains .entry)) (now (layers .entry)) (now (targets .entry))))) ⌝ }
+    ensures { λ r. ⌜ r ≡ chain (literalRules (lent (now (domains .entry)) (now (layers .entry)) (now (targets .entry))) (now (literals .entry)) last) ⌝ }
     ensures { λ r. ⌜ (r ≡ Verdict.Passed → now (build .exit) ≡ buildOf (lent (now (domains .entry)) (now (layers .entry)) (now (targets .entry))) (now (literals .entry))) ⌝ }
 {
-    let last = counts.variables() as u32;
-    let read = read_values(domains, literals, counts.values as usize, last, build);
+    let read = read_values(domains, literals, values, last, build);
     if let Verdict::Refused(_) = read {
         return read;
     }
@@ -281,10 +286,10 @@ fn read_build(
 // ---- the build goes out
 
 // Where a build stands until it is known to be allowed.
-fn no_build() -> [u32; 64]
+fn no_build() -> [u32; OPTIONS]
     ensures { λ r. ⌜ length r ≡ 64 ⌝ }
 {
-    [0u32; 64]
+    [0u32; OPTIONS]
 }
 
 // Writes the build over the front of the lent list.
@@ -299,22 +304,23 @@ fn copy_out(build: &[u32], out: &mut [u32])
     }
 }
 
-// Numbers 10 to 13: the build is made in `build`, and goes into `out` only where all pass.
+// The same: the build is made in `build`, and goes into `out` only where all pass.
 fn read_into(
+    values: usize,
+    last: u32,
+    build: &mut [u32],
+    out: &mut [u32],
     domains: &[u32],
     layers: &[u32],
     targets: &[u32],
     literals: &[i32],
-    counts: Diagram,
-    build: &mut [u32],
-    out: &mut [u32],
 ) -> ModelAnswer
     requires { ⌜ Sound (lent (now domains) (now layers) (now targets)) ⌝ }
-    requires { ⌜ counts ≡ countsOf (lent (now domains) (now layers) (now targets)) ⌝ }
+    requires { ⌜ (values ≡ valueCount (lent (now domains) (now layers) (now targets))) × (last ≤ 2147483647) ⌝ }
     requires { ⌜ (length (now build) ≡ length (now domains)) × (length (now domains) ≤ length (now out)) ⌝ }
-    ensures { λ r. ⌜ ReadBy (literalRules (lent (now (domains .entry)) (now (layers .entry)) (now (targets .entry))) (now (literals .entry)) (lastVariable edition1 (lent (now (domains .entry)) (now (layers .entry)) (now (targets .entry))))) (lent (now (domains .entry)) (now (layers .entry)) (now (targets .entry))) (now (literals .entry)) (now (out .entry)) r (now (out .exit)) ⌝ }
+    ensures { λ r. ⌜ ReadBy (literalRules (lent (now (domains .entry)) (now (layers .entry)) (now (targets .entry))) (now (literals .entry)) last) (lent (now (domains .entry)) (now (layers .entry)) (now (targets .entry))) (now (literals .entry)) (now (out .entry)) r (now (out .exit)) ⌝ }
 {
-    match read_build(domains, layers, targets, literals, counts, build) {
+    match read_build(domains, layers, targets, literals, values, last, build) {
         Verdict::Refused(r) => ModelAnswer {
             outcome: ModelRead::Refused(r),
         },
@@ -349,15 +355,18 @@ fn read_sound(
             }),
         };
     }
+    let values = counts.values as usize;
+    let last = counts.variables() as u32;
     let mut build = no_build();
     read_into(
+        values,
+        last,
+        &mut build[..n],
+        out,
         domains,
         layers,
         targets,
         literals,
-        counts,
-        &mut build[..n],
-        out,
     )
 }
 

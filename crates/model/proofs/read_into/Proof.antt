@@ -28,7 +28,7 @@ reading c = c .before .before .before .before
 
 -- the build that was read
 abbrev held : tie.After-read-build → List ℕ
-held c = c .read-build .last .1 .1 .1 .1 .1 .0
+held c = c .read-build .last .1 .1 .1 .1 .1 .1 .0
 
 read : (c : tie.After-enum-told) → held (reading c) ≡ buildOf (d (reading c)) (m (reading c))
 read c = reading c .read-build .ensures .1 (c .enum-told .given .1)
