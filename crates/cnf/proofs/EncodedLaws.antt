@@ -15,7 +15,7 @@ use Rattle.refusal.specs.Table.{Row, numbers, ExactlyWhen}
 use Rattle.refusal.specs.declared.Refusal.{Refusal}
 use Rattle.refusal.specs.declared.Verdict.the-variants.{Passed, Refused as Refusing}
 use Rattle.refusal.proofs.TableLaws.{eachOnce, Faithful}
-use Rattle.refusal.proofs.AnsweredLaws.{by-refusal, by-result, first-refuse, goes-on, answered-exactly-when, refusal-keeps, result-exactly, result-leaves}
+use Rattle.refusal.proofs.AnsweredLaws.{by-refusal, by-result, first-refuse, goes-on, Told, told}
 use Rattle.refusal.proofs.RoomLaws.{too-short, long-enough}
 use Rattle.cnf.specs.Clause.{Clause, words}
 use Rattle.cnf.specs.Encoded.{tallyOf, tallySaid, encodedSaid, EncodedBy, encoded-said-once}
@@ -42,18 +42,21 @@ module _ (cs : List Clause) (last : ℕ) (before : List ℤ) where
   -- ---- what an answer tells
 
   module _ (rules : List Rule) (answer : EncodeAnswer) (after : List ℤ) (promise : EncodedBy rules cs last before answer after) where
+    tells : Told encodedSaid Refused rules (tallySaid (tallyOf cs last)) (over (words cs) before) before (answer .outcome) after
+    tells = told encodedSaid encoded-said-once Refused (λ r. refl) promise
+
     -- where the rules compute a table: each number is given exactly when its row is due and none before it is
     pub encoded-exactly-when : (table : List Row) → Faithful rules table → T (eachOnce (numbers table)) → ExactlyWhen table (λ r. answer .outcome ≡ Refused r)
-    encoded-exactly-when = answered-exactly-when encodedSaid encoded-said-once Refused (λ r. refl) rules _ _ (answer .outcome) promise
+    encoded-exactly-when = tells .told-when
 
     -- a refusal keeps the buffer
     pub encoded-keeps : (r : Refusal) → answer .outcome ≡ Refused r → after ≡ before
-    encoded-keeps = refusal-keeps encodedSaid encoded-said-once Refused (λ r. refl) rules _ _ (answer .outcome) promise
+    encoded-keeps = tells .told-keeps
 
     -- "written" is answered with counts exactly when the rules pass and the counts are the list's own
     pub written-exactly : (t : Tally) → (answer .outcome ≡ Written t) ↔ ((chain rules ≡ Passed) × (t ≡ tallyOf cs last))
     written-exactly t =
-        let w = result-exactly encodedSaid encoded-said-once Refused (λ r. refl) rules _ _ (answer .outcome) promise (Written t) _ _ refl in
+        let w = tells .told-result (Written t) _ _ refl in
         ((λ q. let p = w .0 q in (p .0, own (encoded-said-once (Written t) (Written (tallyOf cs last)) (p .1)))), (λ p. w .1 (p .0, ap (λ (t : Tally). result (tallySaid t)) (p .1))))
       where
         own : {s t : Tally} → Written s ≡ Written t → s ≡ t
@@ -64,5 +67,5 @@ module _ (cs : List Clause) (last : ℕ) (before : List ℤ) where
     written-list t q =
         let w = written-exactly t .0 q in
         let n : t .words ≡ length (words cs) = ap (λ (t : Tally). t .words) (w .1) in
-        let b : after ≡ over (words cs) before = result-leaves encodedSaid encoded-said-once Refused (λ r. refl) rules _ _ (answer .outcome) promise (w .0) in
+        let b : after ≡ over (words cs) before = tells .told-leaves (w .0) in
         rw (n, b) (over-take (words cs) before, over-drop (words cs) before)

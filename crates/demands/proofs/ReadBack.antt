@@ -25,10 +25,10 @@ use Rattle.model.specs.Model.{variable, BuildOf, ReadsAs}
 use Rattle.model.specs.Promise.{ModelPromise}
 use Rattle.model.specs.declared.ModelRead.the-variants.{Built}
 use Rattle.model.specs.declared.ModelAnswer.{ModelAnswer}
-use Rattle.model.proofs.SaidLaws.{build-fits}
+use Rattle.model.proofs.NamedLaws.{build-fits}
 use Rattle.model.proofs.ModelLaws.{built-exactly, built-list}
 use Rattle.demands.specs.Demand3.{Gives, Meaning, Demand3}
-use Rattle.demands.specs.ReadBack.{Names, modelOf, ComesBack, WasRead, ReadBack}
+use Rattle.demands.specs.ReadBack.{Names, literalOf, modelOf, ComesBack, WasRead, ReadBack}
 use Rattle.demands.proofs.Demand3.{demand3}
 
 -- ---- a model that names a setting
@@ -68,15 +68,12 @@ says-holds σ true u q = q
 says-holds σ false u q = ap not q
 
 module _ (last : ℕ) (σ : Setting) where
-  abbrev saying : ℕ → ℤ
-  saying u = says (σ (suc u)) (suc u)
-
   names-all : length (modelOf last σ) ≡ last
-  names-all = list-singles last saying
+  names-all = list-singles last (literalOf σ)
 
   -- the literal at index k names the variable k + 1
   names-next : (k : ℕ) → k < length (modelOf last σ) → variable (modelOf last σ) k ≡ suc k
-  names-next k h = ap natAbs (list-at (pos 0) saying last k (omega (arith, names-all))) ∙ says-names (σ (suc k)) k
+  names-next k h = ap natAbs (list-at (pos 0) (literalOf σ) last k (omega (arith, names-all))) ∙ says-names (σ (suc k)) k
 
 in-order : (e : Edition) (d : Lent) (σ : Setting) → Names d (lastVariable e d) σ (modelOf (lastVariable e d) σ)
 in-order e d σ =

@@ -34,9 +34,12 @@ pub record Names (d : Lent) (last : ℕ) (σ : Setting) (m : List ℤ) : Type 0 
   pub true-there : Every (λ l. holds σ l ≡ true) m
   pub trues-named : (i j : ℕ) → i < options d → j < domain d i → σ (valueVariable d i j) ≡ true → NamedTrue m (valueVariable d i j)
 
--- the model that names every variable from 1 to V, in order
+-- the literal that says of the variable u + 1 what the setting says; the model that names every variable from 1 to V, in order
+abbrev pub literalOf : Setting → ℕ → ℤ
+literalOf σ u = says (σ (suc u)) (suc u)
+
 abbrev pub modelOf : ℕ → Setting → List ℤ
-modelOf last σ = upTo last (λ u. says (σ (suc u)) (suc u) ∷ [])
+modelOf last σ = upTo last (λ u. literalOf σ u ∷ [])
 
 -- the setting's build comes back: "built" is answered, the list begins with the build that the setting gives, and the rest
 -- of the list is kept
@@ -70,7 +73,7 @@ pub record ReadBack (e : Edition) : Type 0 where
   pub written : (d : Lent) (room : List ℤ) (encoded : EncodeAnswer) (buffer : List ℤ) → EncodePromise e d room encoded buffer → (t : Tally) → encoded .outcome ≡ Written t
       → (σ : Setting) → Satisfies σ (clausesOf (take (t .words) buffer)) → (m : List ℤ) → Names d (t .variables) σ m
       → (before : List ℕ) (answer : ModelAnswer) (after : List ℕ) → ModelPromise e d m before answer after → options d ≤ length before → ComesBack d σ before answer after
-  -- such a model is the one that names every variable, in order
+  -- the model that names every variable, in order, is such a model
   pub in-order : (d : Lent) (σ : Setting) → Names d (lastVariable e d) σ (modelOf (lastVariable e d) σ)
   -- whatever is read as a build, from whatever model
   pub was-read : (d : Lent) (m : List ℤ) (before : List ℕ) (answer : ModelAnswer) (after : List ℕ) → ModelPromise e d m before answer after → (n : ℕ) → answer .outcome ≡ Built n → WasRead e d m n before after (take n after)

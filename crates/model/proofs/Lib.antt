@@ -1,5 +1,5 @@
 -- The laws of this crate that others cite. Assumes nothing.
 pub mod MarkLaws
-pub mod SaidLaws
+pub mod NamedLaws
 pub mod ReadLaws
 pub mod ModelLaws

@@ -19,7 +19,8 @@ use Rattle.diagram.specs.Lent.{Lent, options, domain}
 use Rattle.diagram.specs.Numbers.{firstValue, values}
 use Rattle.diagram.proofs.NumberLaws.{value-sums}
 use Rattle.model.specs.Model.{literal, variable}
-use Rattle.model.specs.Rules.{markOf, mark, again, hasValue, unclear, valueOf, valuesTo, namesTrue, buildOf, isMarked, noted, Marks, markedTrue}
+use Rattle.model.specs.Rules.{markOf, mark, again, hasValue, unclear, valueOf, valuesTo, namesTrue, buildOf}
+use Rattle.model.specs.Marks.{isMarked, noted, Marks, markedTrue}
 
 -- before the first literal there are none
 pub no-marks : (D : ℕ) (m : List ℤ) → D ≤ 2048 → Marks D m 0 (replicate 2048 0)

@@ -12,7 +12,7 @@ use Rattle.lists.specs.First.{foundIf}
 use Rattle.lists.specs.Buffer.{over}
 use Rattle.lists.proofs.FirstLaws.{Tests, tests-one}
 use Rattle.lists.proofs.BufferLaws.{over-take, over-drop}
-use Rattle.refusal.specs.Rules.{Rule, roomRule, chain}
+use Rattle.refusal.specs.Rules.{Rule, chain}
 use Rattle.refusal.specs.Said.{Said, result}
 use Rattle.refusal.specs.Table.{roomRow, ExactlyWhen}
 use Rattle.refusal.specs.declared.Refusal.{Refusal}
@@ -20,7 +20,7 @@ use Rattle.refusal.specs.declared.Verdict.the-variants.{Passed}
 use Rattle.refusal.proofs.RulesLaws.{passes, passed, not-due}
 use Rattle.refusal.proofs.TableLaws.{Faithful, faithful-append}
 use Rattle.refusal.proofs.RoomLaws.{room-faithful, long-enough, fits}
-use Rattle.refusal.proofs.AnsweredLaws.{answered-exactly-when, refusal-keeps, result-exactly, result-leaves}
+use Rattle.refusal.proofs.AnsweredLaws.{Told, told}
 use Rattle.diagram.specs.Lent.{Lent, options, chosen, Allows, RootAllows}
 use Rattle.diagram.specs.Sound.{Sound, checkTable}
 use Rattle.diagram.specs.Rules.{checkRules}
@@ -33,7 +33,8 @@ use Rattle.model.specs.Rules.{buildOf, valueRules, literalRules, soundRu
 use Rattle.model.specs.Promise.{modelSaid, ModelPromise, model-said-once}
 use Rattle.model.specs.declared.ModelRead.the-variants.{Built, Refused}
 use Rattle.model.specs.declared.ModelAnswer.{ModelAnswer}
-use Rattle.model.proofs.SaidLaws.{tests-10, tests-11, tests-12, build-said, one-build, build-fits}
+use Rattle.model.proofs.ReadLaws.{roomRules}
+use Rattle.model.proofs.NamedLaws.{tests-10, tests-11, tests-12, values-passed, build-said, one-build, build-fits}
 
 module _ (d : Lent) (m : List ℤ) where
   -- number 13: what its test is for, where the numbers before it have passed
@@ -72,14 +73,12 @@ module _ (d : Lent) (m : List ℤ) where
 
     -- in a sound diagram they pass exactly when the model reads as a build
     passed-reads : Sound d → chain literals ≡ Passed → (build : List ℕ) × ReadsAs d m e build
-    unfolding literalRules valueRules
+    unfolding literalRules
     passed-reads s q =
-        let q₁₀ = not-due 10 _ _ q in
-        let q₁₁ = not-due 11 _ _ (q₁₀ .1) in
-        let q₁₂ = not-due 12 _ _ (q₁₁ .1) in
-        let once = tests-11 d m .none .0 (q₁₁ .0) in
-        let w = tests-13 s once (tests-12 d m once .none .0 (q₁₂ .0)) .none .0 (not-due 13 _ [] (q₁₂ .1) .0) in
-        (w .build, record { ranged = tests-10 (lastVariable e d) m .none .0 (q₁₀ .0); named-first = once; is-said = w .is-said; allowed = w .allowed })
+        let w = passed (valueRules d m (lastVariable e d)) _ q in
+        let v = values-passed d m (lastVariable e d) (w .0) in
+        let a = tests-13 s (v .1) (v .2) .none .0 (not-due 13 _ [] (w .1) .0) in
+        (a .build, record { ranged = v .0; named-first = v .1; is-said = a .is-said; allowed = a .allowed })
 
     reads-passed : Sound d → (build : List ℕ) → ReadsAs d m e build → chain literals ≡ Passed
     unfolding literalRules valueRules chain
@@ -96,49 +95,46 @@ module _ (d : Lent) (m : List ℤ) where
     -- ---- all numbers: those of the diagram, then the list's length, then those of the literals
 
     module _ (room : ℕ) where
-      abbrev roomRules : List Rule
-      roomRules = roomRule (options d) room ∷ []
-
       model-faithful : Faithful (modelRules d m e room) (modelTable d m e room)
       unfolding modelRules soundRules
       model-faithful =
-          faithful-append (checkRules d) (roomRules ++ literals) (checkTable d) (roomRow (options d) room ∷ literalTable d m e) (check-faithful d)
-          (λ p. faithful-append roomRules literals (roomRow (options d) room ∷ []) (literalTable d m e) (room-faithful (options d) room) (λ _. literals-faithful (passed-sound d p)))
+          faithful-append (checkRules d) (roomRules d room ++ literals) (checkTable d) (roomRow (options d) room ∷ literalTable d m e) (check-faithful d)
+          (λ p. faithful-append (roomRules d room) literals (roomRow (options d) room ∷ []) (literalTable d m e) (room-faithful (options d) room) (λ _. literals-faithful (passed-sound d p)))
 
       -- every rule passes exactly when the diagram is sound, its options fit into the list, and the model reads as a build
       all-passed : (chain (modelRules d m e room) ≡ Passed) ↔ ((Sound d × (options d ≤ room)) × ((build : List ℕ) × ReadsAs d m e build))
       unfolding modelRules soundRules
       all-passed = (
         (λ q.
-            let w = passed (checkRules d) (roomRules ++ literals) q in
-            let u = passed roomRules literals (w .1) in
+            let w = passed (checkRules d) (roomRules d room ++ literals) q in
+            let u = passed (roomRules d room) literals (w .1) in
             let s = passed-sound d (w .0) in
             ((s, fits (options d) room (u .0)), passed-reads s (u .1))),
         (λ w.
             let s = w .0 .0 in
-            let q = passes roomRules literals (sym (long-enough (options d) room (w .0 .1))) refl (sym (reads-passed s (w .1 .0) (w .1 .1))) in
-            sym (passes (checkRules d) (roomRules ++ literals) (sym (sound-passed d s)) refl q)),
+            let q = passes (roomRules d room) literals (sym (long-enough (options d) room (w .0 .1))) refl (sym (reads-passed s (w .1 .0) (w .1 .1))) in
+            sym (passes (checkRules d) (roomRules d room ++ literals) (sym (sound-passed d s)) refl q)),
       )
 
     -- ---- what an answer of `read_model` tells
 
     module _ (before : List ℕ) (answer : ModelAnswer) (after : List ℕ) (promise : ModelPromise e d m before answer after) where
-      abbrev rules : List Rule
-      rules = modelRules d m e (length before)
+      tells : Told modelSaid Refused (modelRules d m e (length before)) (options d ∷ []) (over (buildOf d m) before) before (answer .outcome) after
+      tells = told modelSaid model-said-once Refused (λ r. refl) promise
 
       -- each of the numbers 1 to 7 and 10 to 13 is given exactly when its row is due and none before it is
       pub model-exactly-when : ExactlyWhen (modelTable d m e (length before)) (λ r. answer .outcome ≡ Refused r)
-      model-exactly-when = answered-exactly-when modelSaid model-said-once Refused (λ r. refl) rules _ _ (answer .outcome) promise (modelTable d m e (length before)) (model-faithful (length before)) tt
+      model-exactly-when = tells .told-when (modelTable d m e (length before)) (model-faithful (length before)) tt
 
       -- a refusal keeps the list
       pub model-keeps : (r : Refusal) → answer .outcome ≡ Refused r → after ≡ before
-      model-keeps = refusal-keeps modelSaid model-said-once Refused (λ r. refl) rules _ _ (answer .outcome) promise
+      model-keeps = tells .told-keeps
 
       -- "built" is answered with a count exactly when the diagram is sound, its options fit into the list, the model reads
       -- as a build, and the count is the number of options
       pub built-exactly : (n : ℕ) → (answer .outcome ≡ Built n) ↔ ((Sound d × (options d ≤ length before)) × ((build : List ℕ) × ReadsAs d m e build) × (n ≡ options d))
       built-exactly n =
-          let r = result-exactly modelSaid model-said-once Refused (λ r. refl) rules _ _ (answer .outcome) promise (Built n) _ _ refl in (
+          let r = tells .told-result (Built n) _ _ refl in (
             (λ q. let p = r .0 q in let w = all-passed (length before) .0 (p .0) in (w .0, w .1, ap (λ (s : Said). getD (s .values) 0 0) (p .1))),
             (λ w. r .1 (all-passed (length before) .1 (w .0, w .1), ap (λ (k : ℕ). result (k ∷ [])) (w .2))),
           )
@@ -148,6 +144,6 @@ module _ (d : Lent) (m : List ℤ) where
       built-list n q build b =
           let w = built-exactly n .0 q in
           let s : buildOf d m ≡ build = one-build d m (buildOf d m) build (build-said d m (w .1 .1 .named-first) (each-one build b)) b in
-          let a : after ≡ over build before = result-leaves modelSaid model-said-once Refused (λ r. refl) rules _ _ (answer .outcome) promise (all-passed (length before) .1 (w .0, w .1)) ∙ ap (λ (l : List ℕ). over l before) s in
+          let a : after ≡ over build before = tells .told-leaves (all-passed (length before) .1 (w .0, w .1)) ∙ ap (λ (l : List ℕ). over l before) s in
           let c : n ≡ length build = w .2 ∙ sym (b .whole) in
           rw (c, a) (over-take build before, over-drop build before)

@@ -14,7 +14,7 @@ use Rattle.refusal.specs.Said.{result}
 use Rattle.refusal.specs.declared.Refusal.{Refusal}
 use Rattle.refusal.specs.declared.Verdict.{Verdict}
 use Rattle.refusal.specs.declared.Verdict.the-variants.{Passed, Refused as Refusing}
-use Rattle.refusal.proofs.RulesLaws.{refuses, passes, tested, not-tested, not-due}
+use Rattle.refusal.proofs.RulesLaws.{refuses, passes, tested, not-tested}
 use Rattle.refusal.proofs.RoomLaws.{too-short, long-enough}
 use Rattle.refusal.proofs.AnsweredLaws.{by-refusal, by-result, first-refuse, goes-on}
 use Rattle.diagram.specs.Lent.{Lent, lent, options}
@@ -27,7 +27,11 @@ use Rattle.model.specs.Rules.{unclear, valueOf, buildOf, valueRules, lit
 use Rattle.model.specs.Promise.{modelSaid, ReadBy, ModelPromise}
 use Rattle.model.specs.declared.ModelRead.the-variants.{Built, Refused}
 use Rattle.model.specs.declared.ModelAnswer.{ModelAnswer}
-use Rattle.model.proofs.SaidLaws.{tests-11, tests-12, build-said, build-fits}
+use Rattle.model.proofs.NamedLaws.{values-passed, build-said, build-fits}
+
+-- number 7, as a list of its own
+abbrev pub roomRules : Lent → ℕ → List Rule
+roomRules d room = roomRule (options d) room ∷ []
 
 -- the numbers 10 to 12, and the build, read no list of the diagram but the domains
 module _ (ds ls ts : List ℕ) (m : List ℤ) where
@@ -42,11 +46,7 @@ module _ (ds ls ts : List ℕ) (m : List ℤ) where
 module _ (d : Lent) (m : List ℤ) (last : ℕ) where
   -- where they have passed, the build fits the diagram
   pub values-fit : chain (valueRules d m last) ≡ Passed → Fits d (buildOf d m)
-  unfolding valueRules
-  values-fit q =
-      let q₁₁ = not-due 11 _ _ (not-due 10 _ _ q .1) in
-      let once = tests-11 d m .none .0 (q₁₁ .0) in
-      build-fits d m (buildOf d m) (build-said d m once (tests-12 d m once .none .0 (not-due 12 _ [] (q₁₁ .1) .0)))
+  values-fit q = let v = values-passed d m last q in build-fits d m (buildOf d m) (build-said d m (v .1) (v .2))
 
   -- ---- numbers 10 to 12, and then 13
 
@@ -67,16 +67,13 @@ module _ (d : Lent) (m : List ℤ) (last : ℕ) where
   -- ---- of a sound diagram: the list is too short; or a rule of the literals is due, or none
 
   module _ (before : List ℕ) where
-    abbrev roomRules : List Rule
-    roomRules = roomRule (options d) (length before) ∷ []
-
     pub read-short : length before < options d → ReadBy (soundRules d m last (length before)) d m before (record { outcome = Refused (refusal 7 (options d)) }) before
     unfolding soundRules
-    read-short h = first-refuse modelSaid _ _ before roomRules (literalRules d m last) refl (too-short (options d) (length before) h)
+    read-short h = first-refuse modelSaid _ _ before (roomRules d (length before)) (literalRules d m last) refl (too-short (options d) (length before) h)
 
     pub read-room : options d ≤ length before → {v : ℕ} → v ≡ last → (answer : ModelAnswer) (after : List ℕ) → ReadBy (literalRules d m v) d m before answer after → ReadBy (soundRules d m last (length before)) d m before answer after
     unfolding soundRules
-    read-room h e answer after j = goes-on modelSaid _ _ before roomRules (literalRules d m last) (long-enough (options d) (length before) h) (subst (λ (v : ℕ). ReadBy (literalRules d m v) d m before answer after) e j)
+    read-room h e answer after j = goes-on modelSaid _ _ before (roomRules d (length before)) (literalRules d m last) (long-enough (options d) (length before) h) (subst (λ (v : ℕ). ReadBy (literalRules d m v) d m before answer after) e j)
 
     pub read-refused : {r : Refusal} → chain (literalRules d m last) ≡ Refusing r → ReadBy (literalRules d m last) d m before (record { outcome = Refused r }) before
     read-refused q = by-refusal modelSaid _ _ before refl q

@@ -1,4 +1,5 @@
 -- What this crate defines. Assumes nothing.
 pub mod Model
 pub mod Rules
+pub mod Marks
 pub mod Promise

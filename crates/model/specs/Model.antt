@@ -25,12 +25,15 @@ variable m k = natAbs (literal m k)
 abbrev pub NamedTrue : List ℤ → ℕ → Type 0
 NamedTrue m x = List·Memᴰ (plain x) m
 
--- number 10: the literal at index k names a variable from 1 to `last`
+-- ---- what each number from 10 to 13 asks for
+
+-- 10: the literal at index k names a variable from 1 to `last`
 abbrev pub InRange : ℕ → List ℤ → ℕ → Type 0
 InRange last m k = Within 1 last (variable m k)
 
 module _ (d : Lent) (m : List ℤ) where
-  -- number 11: no literal before index k names the same variable as the one at k, if that is a value variable
+  -- 11: no literal before index k names the same variable as the one at k, if that is a value variable: one up to D, for a 0
+  -- is 10's
   abbrev pub NamedFirst : ℕ → Type 0
   NamedFirst k = variable m k ≤ values d → (j : ℕ) → j < k → variable m j ≡ variable m k → ⊥
 
@@ -40,7 +43,7 @@ module _ (d : Lent) (m : List ℤ) where
     pub named-true : NamedTrue m (valueVariable d i j)
     pub no-other : (k : ℕ) → k < domain d i → NamedTrue m (valueVariable d i k) → k ≡ j
 
-  -- number 12: there is such a value
+  -- 12: there is such a value
   abbrev pub OneValue : ℕ → Type 0
   OneValue i = (j : ℕ) × ValueOf i j
 
@@ -49,7 +52,7 @@ module _ (d : Lent) (m : List ℤ) where
     pub whole : length build ≡ options d
     pub each : (i : ℕ) → i < options d → ValueOf i (chosen build i)
 
-  -- number 13: the diagram allows the model's build
+  -- 13: the diagram allows the model's build. (Without a build there is none that it allows; but then 12 is due before.)
   pub record AllowedBuild : Type 0 where
     pub build : List ℕ
     pub is-said : BuildOf build

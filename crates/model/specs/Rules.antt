@@ -1,18 +1,16 @@
 -- The same table as tests that compute, and the build that they compute. Assumes nothing.
-use mathlib.Core.Path.{_≡_}
 use mathlib.Core.Bool.{Bool, not, cond, _&&_, _||_}
 use mathlib.Core.List.{List, [], _∷_, _++_}
-use Prim.Native.Nat.{ℕ, zero, suc, _+_, _-_, _<_}
+use Prim.Native.Nat.{ℕ, zero, suc, _+_}
 use lib.Dec.{leb, eqb}
 use lib.IntN.{ℤ}
-use lib.ListN.{length, getD, set}
+use lib.ListN.{length}
 use Rattle.lists.specs.Upto.{upTo, countTo, lastTo}
 use Rattle.lists.specs.First.{foundIf, first}
 use Rattle.lists.specs.Signed.{isZero, isNegative, beyond}
 use Rattle.refusal.specs.Rules.{Rule, rule, roomRule}
 use Rattle.diagram.specs.Lent.{Lent, options, domain}
 use Rattle.diagram.specs.Numbers.{firstValue, values}
-use Rattle.diagram.specs.Sound.{Within}
 use Rattle.diagram.specs.Rules.{checkRules}
 use Rattle.judge.specs.Promise.{allowsTest}
 use Rattle.clauses.specs.Clauses.{Edition, lastVariable}
@@ -83,26 +81,3 @@ module _ (d : Lent) (m : List ℤ) where
 
   unfoldable pub modelRules : Edition → ℕ → List Rule
   modelRules e room = checkRules d ++ soundRules (lastVariable e d) room
-
--- ---- what the functions inside `read_model` say to each other, of one byte for each value variable
-
--- the variable x is one up to D, and has a mark
-unfoldable pub isMarked : ℕ → ℕ → List ℕ → Bool
-isMarked D x ms = leb x D && not (eqb (getD ms (x - 1) 0) 0)
-
--- the marks once x has one: the one it had, or else this
-unfoldable pub noted : ℕ → ℕ → ℕ → List ℕ → List ℕ
-noted D x k ms = cond (leb x D && eqb (getD ms (x - 1) 0) 0) (set ms (x - 1) k) ms
-
--- the marks are what the first k literals say of the variables 1 to D
-pub record Marks (D : ℕ) (m : List ℤ) (k : ℕ) (ms : List ℕ) : Type 0 where
-  pub whole : length ms ≡ 2048
-  pub said : (u : ℕ) → u < D → getD ms u 0 ≡ mark m k (suc u)
-
--- the variable u + 1 is marked true
-abbrev pub markedTrue : List ℕ → ℕ → Bool
-markedTrue ms u = eqb (getD ms u 0) 1
-
--- each literal names a variable, and its magnitude can be taken
-abbrev pub Ranged : List ℤ → Type 0
-Ranged m = (k : ℕ) → k < length m → Within 1 2147483647 (variable m k)

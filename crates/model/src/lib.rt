@@ -22,7 +22,8 @@ ghost use Rattle.diagram.specs.Promise.{countsOf};
 ghost use Rattle.judge.specs.Build.{Fits};
 ghost use Rattle.judge.specs.Promise.{allowsTest};
 ghost use Rattle.clauses.specs.Clauses.{edition1, lastVariable};
-ghost use Rattle.model.specs.Rules.{badLiteral, badAt, markOf, mark, again, unclear, valuesTo, buildOf, valueRules, literalRules, soundRules, isMarked, noted, Marks, markedTrue, Ranged};
+ghost use Rattle.model.specs.Rules.{badLiteral, badAt, markOf, mark, again, unclear, valuesTo, buildOf, valueRules, literalRules, soundRules};
+ghost use Rattle.model.specs.Marks.{isMarked, noted, Marks, markedTrue, Ranged};
 ghost use Rattle.model.specs.Promise.{ReadBy, ModelPromise};
 
 pub enum ModelRead {
@@ -127,7 +128,7 @@ fn no_marks() -> [u8; VALUES]
     [0u8; VALUES]
 }
 
-// Marks the variable x, unless it is no value variable or has a mark already; true where it has one.
+// Marks the variable x, unless it is no value variable or has a mark; answers whether it had one.
 fn note(marks: &mut [u8; VALUES], values: usize, x: usize, mark: u8) -> bool
     requires { ⌜ (values ≤ 2048) × (1 ≤ x) × (length (now marks) ≡ 2048) ⌝ }
     ensures { λ r. ⌜ r ≡ isMarked values x (now (marks .entry)) ⌝ }

@@ -38,27 +38,31 @@ module _ {A B : Type 0} (said : A → Said) (values : List ℕ) (written before 
           buffer = j .buffer ∙ ap (λ (v : Verdict). leaving v written before) w;
         }
 
--- ---- what it tells, where no two answers say the same, `no` makes a refusal an answer, and a result has values
+-- ---- what it tells, where `no` makes a refusal an answer
 
-module _ {A B : Type 0} (said : A → Said) (once : (a b : A) → said a ≡ said b → a ≡ b) (no : Refusal → A) (says-no : (r : Refusal) → said (no r) ≡ refused r)
-    (rules : List Rule) (v : ℕ) (vs : List ℕ) {written before : B} (answer : A) {after : B} (promise : AnsweredBy said rules (v ∷ vs) written before answer after) where
-  refused-exactly : (r : Refusal) → (answer ≡ no r) ↔ (chain rules ≡ Refused r)
-  refused-exactly = refused-as said once no says-no answer (chain rules) v vs (promise .says)
-
+pub record Told {A B : Type 0} (said : A → Said) (no : Refusal → A) (rules : List Rule) (values : List ℕ) (written before : B) (answer : A) (after : B) : Type 1 where
   -- where the rules compute a table: each number is given exactly when its row is due and none before it is
-  pub answered-exactly-when : (table : List Row) → Faithful rules table → T (eachOnce (numbers table)) → ExactlyWhen table (λ r. answer ≡ no r)
-  answered-exactly-when table f t = exactly-when rules table f t refused-exactly
-
+  pub told-when : (table : List Row) → Faithful rules table → T (eachOnce (numbers table)) → ExactlyWhen table (λ r. answer ≡ no r)
   -- a refusal keeps the buffer
-  pub refusal-keeps : (r : Refusal) → answer ≡ no r → after ≡ before
-  refusal-keeps r q = promise .buffer ∙ rw (refused-exactly r .0 q)
+  pub told-keeps : (r : Refusal) → answer ≡ no r → after ≡ before
+  -- an answer that says values is given exactly when the rules pass and these are the result's
+  pub told-result : (given : A) (u : ℕ) (us : List ℕ) → said given ≡ result (u ∷ us) → (answer ≡ given) ↔ ((chain rules ≡ Passed) × (said given ≡ result values))
+  -- where they pass, the buffer holds what is written
+  pub told-leaves : chain rules ≡ Passed → after ≡ written
 
-  -- a result is answered exactly when the rules pass, and it is this one; the buffer then holds what is written
-  pub result-exactly : (given : A) (u : ℕ) (us : List ℕ) → said given ≡ result (u ∷ us) → (answer ≡ given) ↔ ((chain rules ≡ Passed) × (said given ≡ result (v ∷ vs)))
-  result-exactly given u us e = (
-    (λ q. let p = said-passed (chain rules) u us v vs (sym (ap said q ∙ e) ∙ promise .says) in (p, ap said (sym q) ∙ promise .says ∙ rw p)),
-    (λ w. once answer given (promise .says ∙ rw (w .0) (sym (w .1)))),
-  )
-
-  pub result-leaves : chain rules ≡ Passed → after ≡ written
-  result-leaves p = promise .buffer ∙ rw p
+-- where no two answers say the same, and a result has values
+module _ {A B : Type 0} (said : A → Said) (once : (a b : A) → said a ≡ said b → a ≡ b) (no : Refusal → A) (says-no : (r : Refusal) → said (no r) ≡ refused r) where
+  pub told : {rules : List Rule} {v : ℕ} {vs : List ℕ} {written before : B} {answer : A} {after : B} → AnsweredBy said rules (v ∷ vs) written before answer after → Told said no rules (v ∷ vs) written before answer after
+  told {rules} {v} {vs} {answer = answer} promise =
+      record {
+        told-when = λ table f t. exactly-when rules table f t refused-exactly;
+        told-keeps = λ r q. promise .buffer ∙ rw (refused-exactly r .0 q);
+        told-result = λ given u us e. (
+          (λ q. let p = said-passed (chain rules) u us v vs (sym (ap said q ∙ e) ∙ promise .says) in (p, ap said (sym q) ∙ promise .says ∙ rw p)),
+          (λ w. once answer given (promise .says ∙ rw (w .0) (sym (w .1)))),
+        );
+        told-leaves = λ p. promise .buffer ∙ rw p;
+      }
+    where
+      refused-exactly : (r : Refusal) → (answer ≡ no r) ↔ (chain rules ≡ Refused r)
+      refused-exactly = refused-as said once no says-no answer (chain rules) v vs (promise .says)

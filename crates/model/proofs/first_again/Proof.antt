@@ -15,7 +15,8 @@ use Rattle.lists.specs.declared.Found.the-variants.{Nothing}
 use Rattle.lists.proofs.FirstLaws.{start, pass, stop, done, found-one}
 use Rattle.diagram.specs.Sound.{Within}
 use Rattle.model.specs.Model.{literal, variable}
-use Rattle.model.specs.Rules.{markOf, again, isMarked, noted, Marks}
+use Rattle.model.specs.Rules.{markOf, again}
+use Rattle.model.specs.Marks.{isMarked, noted, Marks}
 use Rattle.model.proofs.MarkLaws.{marked-again, noted-marks}
 use Rattle.model.proofs.first_again.Statement.{statement}
 use Rattle.model.proofs.first_again.Tie as tie

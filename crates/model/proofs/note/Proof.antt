@@ -1,7 +1,7 @@
 -- `model::note` meets its contract. Assumes nothing.
 use borrow.Author.Needs.{needs}
 use borrow.Author.Tests.{le-leb, lt-leb, eq-eqb, ne-eqb}
-use Rattle.model.specs.Rules.{isMarked, noted}
+use Rattle.model.specs.Marks.{isMarked, noted}
 use Rattle.model.proofs.note.Statement.{statement}
 use Rattle.model.proofs.note.Tie as tie
 

@@ -10,8 +10,9 @@ use Rattle.refusal.specs.Rules.{rule, chain}
 use Rattle.refusal.proofs.RulesLaws.{refuses, passes, not-due, never-both}
 use Rattle.diagram.specs.Lent.{Lent, lent, options}
 use Rattle.diagram.specs.Numbers.{values}
-use Rattle.model.specs.Rules.{badAt, again, unclear, namesTrue, valueRules, Marks, Ranged}
-use Rattle.model.proofs.SaidLaws.{tests-10}
+use Rattle.model.specs.Rules.{badAt, again, unclear, namesTrue, valueRules}
+use Rattle.model.specs.Marks.{Marks, Ranged}
+use Rattle.model.proofs.NamedLaws.{tests-10}
 use Rattle.model.proofs.MarkLaws.{no-marks, same-unclear, same-values}
 use Rattle.model.proofs.read_values.Statement.{statement}
 use Rattle.model.proofs.read_values.Tie as tie

@@ -2,7 +2,7 @@
 -- 10 to 12 are for what their rows ask. Assumes nothing.
 use mathlib.Core.Path.{_≡_, refl, sym, _∙_, ap, subst}
 use mathlib.Core.Bool.{Bool, true, false, not, cond, _&&_, true≢false}
-use mathlib.Core.List.{List, List·Memᴰ}
+use mathlib.Core.List.{List, [], List·Memᴰ}
 use mathlib.Core.Logic.{_⊎_, inl, inr, _↔_}
 use Prim.Native.Nat.{ℕ, zero, suc, _≤_, _<_}
 use native.Mathlib.Nat.{not-suc-le-zero}
@@ -17,6 +17,9 @@ use Rattle.lists.specs.Signed.{isZero, isNegative}
 use Rattle.lists.proofs.UptoLaws.{last-or-below, list-singles, list-at}
 use Rattle.lists.proofs.EveryLaws.{entry-in, in-entry}
 use Rattle.lists.proofs.FirstLaws.{Tests, tests-each, count-one, one-count}
+use Rattle.refusal.specs.Rules.{chain}
+use Rattle.refusal.specs.declared.Verdict.the-variants.{Passed}
+use Rattle.refusal.proofs.RulesLaws.{not-due}
 use Rattle.diagram.specs.Lent.{Lent, options, domain, chosen}
 use Rattle.diagram.specs.Numbers.{values}
 use Rattle.diagram.specs.Rules.{outside}
@@ -25,7 +28,7 @@ use Rattle.diagram.proofs.NumberLaws.{value-sums}
 use Rattle.judge.specs.Build.{Fits}
 use Rattle.clauses.specs.Variables.{valueVariable}
 use Rattle.model.specs.Model.{literal, variable, NamedTrue, InRange, NamedFirst, ValueOf, OneValue, BuildOf}
-use Rattle.model.specs.Rules.{badLiteral, badAt, markOf, mark, again, hasValue, unclear, valueOf, namesTrue, buildOf}
+use Rattle.model.specs.Rules.{badLiteral, badAt, markOf, mark, again, hasValue, unclear, valueOf, namesTrue, buildOf, valueRules}
 
 -- ---- number 10
 
@@ -159,6 +162,15 @@ module _ (d : Lent) (m : List ℤ) where
           whole = list-singles (options d) (valueOf d (namesTrue d m));
           each = λ i h. let w = one i h in subst (ValueOf d m i) (sym (list-at 0 (valueOf d (namesTrue d m)) (options d) i h ∙ value-clear i (w .0) h (w .1) .1)) (w .1);
         }
+
+  -- where numbers 10 to 12 have passed
+  pub values-passed : (last : ℕ) → chain (valueRules d m last) ≡ Passed → ((k : ℕ) → k < length m → InRange last m k) × ((k : ℕ) → k < length m → NamedFirst d m k) × ((i : ℕ) → i < options d → OneValue d m i)
+  unfolding valueRules
+  values-passed last q =
+      let q₁₀ = not-due 10 _ _ q in
+      let q₁₁ = not-due 11 _ _ (q₁₀ .1) in
+      let once = tests-11 .none .0 (q₁₁ .0) in
+      (tests-10 last m .none .0 (q₁₀ .0), once, tests-12 once .none .0 (not-due 12 _ [] (q₁₁ .1) .0))
 
   -- a model says one build, and it fits the diagram
   pub one-build : (a b : List ℕ) → BuildOf d m a → BuildOf d m b → a ≡ b

@@ -1,0 +1,33 @@
+-- What the functions inside `read_model` say to each other of the marks: one byte for each value variable, the first
+-- variable's first. No promise reads this. Assumes nothing.
+use mathlib.Core.Path.{_≡_}
+use mathlib.Core.Bool.{Bool, not, cond, _&&_}
+use mathlib.Core.List.{List}
+use Prim.Native.Nat.{ℕ, suc, _-_, _<_}
+use lib.Dec.{leb, eqb}
+use lib.IntN.{ℤ}
+use lib.ListN.{length, getD, set}
+use Rattle.diagram.specs.Sound.{Within}
+use Rattle.model.specs.Model.{variable}
+use Rattle.model.specs.Rules.{mark}
+
+-- the variable x is one up to D, and has a mark
+unfoldable pub isMarked : ℕ → ℕ → List ℕ → Bool
+isMarked D x ms = leb x D && not (eqb (getD ms (x - 1) 0) 0)
+
+-- the marks with k for x, where x is at most D and had none
+unfoldable pub noted : ℕ → ℕ → ℕ → List ℕ → List ℕ
+noted D x k ms = cond (leb x D && eqb (getD ms (x - 1) 0) 0) (set ms (x - 1) k) ms
+
+-- the marks are what the first k literals say of the variables 1 to D
+pub record Marks (D : ℕ) (m : List ℤ) (k : ℕ) (ms : List ℕ) : Type 0 where
+  pub whole : length ms ≡ 2048
+  pub said : (u : ℕ) → u < D → getD ms u 0 ≡ mark m k (suc u)
+
+-- the variable u + 1 is marked true
+abbrev pub markedTrue : List ℕ → ℕ → Bool
+markedTrue ms u = eqb (getD ms u 0) 1
+
+-- each literal names a variable, and its magnitude can be taken
+abbrev pub Ranged : List ℤ → Type 0
+Ranged m = (k : ℕ) → k < length m → Within 1 2147483647 (variable m k)
