@@ -28,7 +28,7 @@ use Rattle.model.specs.declared.ModelAnswer.{ModelAnswer}
 use Rattle.model.proofs.NamedLaws.{build-fits}
 use Rattle.model.proofs.ModelLaws.{built-exactly, built-list}
 use Rattle.demands.specs.Demand3.{Gives, Meaning, Demand3}
-use Rattle.demands.specs.ReadBack.{Names, literalOf, modelOf, ComesBack, WasRead, ReadBack}
+use Rattle.demands.specs.ReadBack.{Names, truthOf, literalOf, modelOf, ComesBack, WasRead, ReadBack}
 use Rattle.demands.proofs.Demand3.{demand3}
 
 -- ---- a model that names a setting
@@ -73,14 +73,14 @@ module _ (last : ℕ) (σ : Setting) where
 
   -- the literal at index k names the variable k + 1
   names-next : (k : ℕ) → k < length (modelOf last σ) → variable (modelOf last σ) k ≡ suc k
-  names-next k h = ap natAbs (list-at (pos 0) (literalOf σ) last k (omega (arith, names-all))) ∙ says-names _ k
+  names-next k h = ap natAbs (list-at (pos 0) (literalOf σ) last k (omega (arith, names-all))) ∙ says-names (truthOf σ k) k
 
 in-order : (e : Edition) (d : Lent) (σ : Setting) → Names d (lastVariable e d) σ (modelOf (lastVariable e d) σ)
 in-order e d σ =
     record {
       ranged = λ k h. rw (names-next last σ k h) (omega arith, omega (arith, names-all last σ));
       named-first = λ k h _ j l q. omega (arith, names-next last σ k h, names-next last σ j (omega arith));
-      true-there = every-upTo True last _ (λ k h. every-more True (says-holds σ _ k refl) (every-none True));
+      true-there = every-upTo True last _ (λ k h. every-more True (says-holds σ (truthOf σ k) k refl) (every-none True));
       trues-named = λ i j h l q. in-list _ last (firstValue d i + j) (value-within e d i j h l .1) (List·Memᴰ·head (sym (ap (λ (b : Bool). says b (valueVariable d i j)) q)));
     }
   where

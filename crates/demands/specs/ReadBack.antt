@@ -2,7 +2,7 @@
 -- build; and whatever is read as a build is what the model says, is allowed, and has exactly one setting. Options and values
 -- count from 0; `last` is V. Assumes nothing.
 use mathlib.Core.Path.{_≡_}
-use mathlib.Core.Bool.{true}
+use mathlib.Core.Bool.{Bool, true}
 use mathlib.Core.List.{List, [], _∷_}
 use Prim.Native.Nat.{ℕ, suc, _≤_, _<_}
 use lib.IntN.{ℤ}
@@ -34,10 +34,14 @@ pub record Names (d : Lent) (last : ℕ) (σ : Setting) (m : List ℤ) : Type 0 
   pub true-there : Every (λ l. holds σ l ≡ true) m
   pub trues-named : (i j : ℕ) → i < options d → j < domain d i → σ (valueVariable d i j) ≡ true → NamedTrue m (valueVariable d i j)
 
--- the literal that says of the variable u + 1 what the setting says; the model that names every variable from 1 to V, in order
-abbrev pub literalOf : Setting → ℕ → ℤ
-literalOf σ u = says (σ (suc u)) (suc u)
+-- what the setting says of the variable u + 1, and the literal that says it
+abbrev pub truthOf : Setting → ℕ → Bool
+truthOf σ u = σ (suc u)
 
+abbrev pub literalOf : Setting → ℕ → ℤ
+literalOf σ u = says (truthOf σ u) (suc u)
+
+-- the model that names every variable from 1 to V, in order
 abbrev pub modelOf : ℕ → Setting → List ℤ
 modelOf last σ = upTo last (λ u. literalOf σ u ∷ [])
 
