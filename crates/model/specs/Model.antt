@@ -32,8 +32,8 @@ abbrev pub InRange : ℕ → List ℤ → ℕ → Type 0
 InRange last m k = Within 1 last (variable m k)
 
 module _ (d : Lent) (m : List ℤ) where
-  -- 11: no literal before index k names the same variable as the one at k, if that is a value variable: one up to D, for a 0
-  -- is 10's
+  -- 11: no literal before index k names the same variable as the one at k, if that is a value variable: one up to D (and a
+  -- literal 0 is number 10's)
   abbrev pub NamedFirst : ℕ → Type 0
   NamedFirst k = variable m k ≤ values d → (j : ℕ) → j < k → variable m j ≡ variable m k → ⊥
 
