@@ -1,14 +1,14 @@
 -- The way back from the solver holds in whatever edition is "exactly one" and speaks of its own variables, and so in
 -- edition 1. Assumes nothing.
 use mathlib.Core.Path.{_≡_, refl, sym, _∙_, ap, subst}
-use mathlib.Core.Bool.{Bool, true, false, not}
-use mathlib.Core.List.{List, List·Memᴰ·head}
+use mathlib.Core.Bool.{Bool, true, false, not, true≢false}
+use mathlib.Core.List.{List, List·Memᴰ}
 use Prim.Native.Nat.{ℕ, suc, _+_, _≤_, _<_}
 use native.Mathlib.Omega.{arith}
-use lib.IntN.{ℤ, pos, natAbs}
+use lib.IntN.{ℤ, pos, negsuc, natAbs}
 use lib.ListN.{length, take}
-use Rattle.lists.proofs.UptoLaws.{list-singles, list-at, in-list}
-use Rattle.lists.proofs.EveryLaws.{every-none, every-more, every-upTo}
+use Rattle.lists.proofs.UptoLaws.{list-singles, list-at}
+use Rattle.lists.proofs.EveryLaws.{every-none, every-more, every-upTo, entry-in}
 use Rattle.cnf.specs.Clause.{Clause, plain, says, Setting, holds, Satisfies}
 use Rattle.cnf.specs.declared.Tally.{Tally}
 use Rattle.diagram.specs.Lent.{Lent, options, chosen}
@@ -21,7 +21,7 @@ use Rattle.clauses.specs.Editions.{ExactlyOne, OwnVariables}
 use Rattle.clauses.proofs.VariableLaws.{value-within}
 use Rattle.clauses.proofs.Edition1.{edition1-one, edition1-own}
 use Rattle.encoder.proofs.EncodeLaws.{encode-written}
-use Rattle.model.specs.Model.{variable, BuildOf, ReadsAs}
+use Rattle.model.specs.Model.{literal, variable, Named, NamedTrue, BuildOf, ReadsAs}
 use Rattle.model.specs.Promise.{ModelPromise}
 use Rattle.model.specs.declared.ModelRead.the-variants.{Built}
 use Rattle.model.specs.declared.ModelAnswer.{ModelAnswer}
@@ -33,6 +33,17 @@ use Rattle.demands.proofs.Demand3.{demand3}
 
 -- ---- a model that names a setting
 
+-- a literal that is true under the setting and names a variable that the setting makes true is that variable's own
+holds-plain : (σ : Setting) (l : ℤ) (x : ℕ) → holds σ l ≡ true → natAbs l ≡ x → σ x ≡ true → l ≡ plain x
+holds-plain σ (pos n) x h e t = ap pos e
+holds-plain σ (negsuc n) x h e t = absurd (true≢false (sym h ∙ ap (λ (k : ℕ). not (σ k)) e ∙ ap not t))
+
+-- a variable that is true and named is named true
+named-true : {d : Lent} {last : ℕ} (σ : Setting) (m : List ℤ) → Names d last σ m → (x : ℕ) → σ x ≡ true → Named m x → NamedTrue m x
+named-true σ m named x t w =
+    let p = entry-in (pos 0) m (w .0) (w .1) in
+    subst (λ (l : ℤ). List·Memᴰ l m) (holds-plain σ (literal m (w .0)) x (named .true-there _ p) (w .2) t) p
+
 -- it says the build that the setting gives: a value is named true exactly where the setting makes it true
 says-build : (d : Lent) (last : ℕ) (σ : Setting) (m : List ℤ) → Names d last σ m → (build : List ℕ) → Fits d build → Gives d (chosen build) σ → BuildOf d m build
 says-build d last σ m named build f g =
@@ -40,7 +51,9 @@ says-build d last σ m named build f g =
       whole = f .whole;
       each = λ i h. record {
         in-range = f .in-domain i h;
-        named-true = named .trues-named i (chosen build i) h (f .in-domain i h) (g .exactly i (chosen build i) h (f .in-domain i h) .1 refl);
+        named-true =
+            let t = g .exactly i (chosen build i) h (f .in-domain i h) .1 refl in
+            named-true σ m named (valueVariable d i (chosen build i)) t (named .trues-named i (chosen build i) h (f .in-domain i h) t);
         no-other = λ k l t. g .exactly i k h l .0 (named .true-there (plain (valueVariable d i k)) t);
       };
     }
@@ -51,7 +64,7 @@ comes-back : (e : Edition) (d : Lent) → Sound d → {last : ℕ} {cs : List Cl
 comes-back e d s {last} {cs} v meaning σ sat m named before answer after p h =
     let t = meaning .every-satisfying σ sat in
     let b = says-build d last σ m named (t .0) (t .1) (t .2) in
-    let r : ReadsAs d m e (t .0) = record { ranged = rw (sym v) (named .ranged); named-first = named .named-first; is-said = b; allowed = t .3 } in
+    let r : ReadsAs d m e (t .0) = record { well-named = rw (sym v) (named .well-named); is-said = b; allowed = t .3 } in
     let q = built-exactly d m e before answer after p (options d) .1 ((s, h), (t .0, r), refl) in
     let l = built-list d m e before answer after p (options d) q (t .0) b in
     record { build = t .0; fits = t .1; gives = t .2; allowed = t .3; answered = q; front = l .0; rest = l .1 }
@@ -78,10 +91,12 @@ module _ (last : ℕ) (σ : Setting) where
 in-order : (e : Edition) (d : Lent) (σ : Setting) → Names d (lastVariable e d) σ (modelOf (lastVariable e d) σ)
 in-order e d σ =
     record {
-      ranged = λ k h. rw (names-next last σ k h) (omega arith, omega (arith, names-all last σ));
-      named-first = λ k h _ j l q. omega (arith, names-next last σ k h, names-next last σ j (omega arith));
+      well-named = record {
+        ranged = λ k h. rw (names-next last σ k h) (omega arith, omega (arith, names-all last σ));
+        named-first = λ k h _ j l q. omega (arith, names-next last σ k h, names-next last σ j (omega arith));
+      };
       true-there = every-upTo True last _ (λ k h. every-more True (says-holds σ (truthOf σ k) k refl) (every-none True));
-      trues-named = λ i j h l q. in-list _ last (firstValue d i + j) (value-within e d i j h l .1) (List·Memᴰ·head (sym (ap (λ (b : Bool). says b (valueVariable d i j)) q)));
+      trues-named = λ i j h l q. let n : firstValue d i + j < length (modelOf last σ) = omega (arith, names-all last σ, value-within e d i j h l) in (firstValue d i + j, n, names-next last σ (firstValue d i + j) n);
     }
   where
     last : ℕ

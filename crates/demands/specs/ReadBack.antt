@@ -20,7 +20,7 @@ use Rattle.judge.specs.Build.{Fits}
 use Rattle.clauses.specs.Variables.{valueVariable}
 use Rattle.clauses.specs.Clauses.{Edition, lastVariable, clauses}
 use Rattle.encoder.specs.Promise.{EncodePromise}
-use Rattle.model.specs.Model.{NamedTrue, InRange, NamedFirst, BuildOf}
+use Rattle.model.specs.Model.{Named, WellNamed, BuildOf}
 use Rattle.model.specs.Promise.{ModelPromise}
 use Rattle.model.specs.declared.ModelRead.the-variants.{Built}
 use Rattle.model.specs.declared.ModelAnswer.{ModelAnswer}
@@ -29,10 +29,9 @@ use Rattle.demands.specs.Demand3.{Gives, OneSetting}
 -- the model names the setting, in whatever order: each literal names a variable from 1 to V and is true under the setting,
 -- none names a value variable again, and every value variable that the setting makes true is named
 pub record Names (d : Lent) (last : ℕ) (σ : Setting) (m : List ℤ) : Type 0 where
-  pub ranged : (k : ℕ) → k < length m → InRange last m k
-  pub named-first : (k : ℕ) → k < length m → NamedFirst d m k
+  pub well-named : WellNamed d m last
   pub true-there : Every (λ l. holds σ l ≡ true) m
-  pub trues-named : (i j : ℕ) → i < options d → j < domain d i → σ (valueVariable d i j) ≡ true → NamedTrue m (valueVariable d i j)
+  pub trues-named : (i j : ℕ) → i < options d → j < domain d i → σ (valueVariable d i j) ≡ true → Named m (valueVariable d i j)
 
 -- what the setting says of the variable u + 1, and the literal that says it
 abbrev pub truthOf : Setting → ℕ → Bool

@@ -77,16 +77,16 @@ module _ (d : Lent) (m : List ℤ) where
     passed-reads s q =
         let w = passed (valueRules d m (lastVariable e d)) _ q in
         let v = values-passed d m (lastVariable e d) (w .0) in
-        let a = tests-13 s (v .1) (v .2) .none .0 (not-due 13 _ [] (w .1) .0) in
-        (a .build, record { ranged = v .0; named-first = v .1; is-said = a .is-said; allowed = a .allowed })
+        let a = tests-13 s (v .0 .named-first) (v .1) .none .0 (not-due 13 _ [] (w .1) .0) in
+        (a .build, record { well-named = v .0; is-said = a .is-said; allowed = a .allowed })
 
     reads-passed : Sound d → (build : List ℕ) → ReadsAs d m e build → chain literals ≡ Passed
     unfolding literalRules valueRules chain
     reads-passed s build r =
-        let once = r .named-first in
+        let once = r .well-named .named-first in
         let one = each-one build (r .is-said) in
         rw (
-          tests-10 (lastVariable e d) m .none .1 (r .ranged),
+          tests-10 (lastVariable e d) m .none .1 (r .well-named .ranged),
           tests-11 d m .none .1 once,
           tests-12 d m once .none .1 one,
           tests-13 s once one .none .1 (record { build = build; is-said = r .is-said; allowed = r .allowed }),
@@ -143,7 +143,7 @@ module _ (d : Lent) (m : List ℤ) where
       pub built-list : (n : ℕ) → answer .outcome ≡ Built n → (build : List ℕ) → BuildOf d m build → (take n after ≡ build) × (drop n after ≡ drop n before)
       built-list n q build b =
           let w = built-exactly n .0 q in
-          let s : buildOf d m ≡ build = one-build d m (buildOf d m) build (build-said d m (w .1 .1 .named-first) (each-one build b)) b in
+          let s : buildOf d m ≡ build = one-build d m (buildOf d m) build (build-said d m (w .1 .1 .well-named .named-first) (each-one build b)) b in
           let a : after ≡ over build before = tells .told-leaves (all-passed (length before) .1 (w .0, w .1)) ∙ ap (λ (l : List ℕ). over l before) s in
           let c : n ≡ length build = w .2 ∙ sym (b .whole) in
           rw (c, a) (over-take build before, over-drop build before)

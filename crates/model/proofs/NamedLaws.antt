@@ -27,7 +27,7 @@ use Rattle.diagram.proofs.ShapedLaws.{inside, not-inside}
 use Rattle.diagram.proofs.NumberLaws.{value-sums}
 use Rattle.judge.specs.Build.{Fits}
 use Rattle.clauses.specs.Variables.{valueVariable}
-use Rattle.model.specs.Model.{literal, variable, NamedTrue, InRange, NamedFirst, ValueOf, OneValue, BuildOf}
+use Rattle.model.specs.Model.{literal, variable, NamedTrue, InRange, NamedFirst, ValueOf, OneValue, BuildOf, WellNamed}
 use Rattle.model.specs.Rules.{badLiteral, badAt, markOf, mark, again, hasValue, unclear, valueOf, namesTrue, buildOf, valueRules}
 
 -- ---- number 10
@@ -164,13 +164,13 @@ module _ (d : Lent) (m : List ℤ) where
         }
 
   -- where numbers 10 to 12 have passed
-  pub values-passed : (last : ℕ) → chain (valueRules d m last) ≡ Passed → ((k : ℕ) → k < length m → InRange last m k) × ((k : ℕ) → k < length m → NamedFirst d m k) × ((i : ℕ) → i < options d → OneValue d m i)
+  pub values-passed : (last : ℕ) → chain (valueRules d m last) ≡ Passed → WellNamed d m last × ((i : ℕ) → i < options d → OneValue d m i)
   unfolding valueRules
   values-passed last q =
       let q₁₀ = not-due 10 _ _ q in
       let q₁₁ = not-due 11 _ _ (q₁₀ .1) in
       let once = tests-11 .none .0 (q₁₁ .0) in
-      (tests-10 last m .none .0 (q₁₀ .0), once, tests-12 once .none .0 (not-due 12 _ [] (q₁₁ .1) .0))
+      (record { ranged = tests-10 last m .none .0 (q₁₀ .0); named-first = once }, tests-12 once .none .0 (not-due 12 _ [] (q₁₁ .1) .0))
 
   -- a model says one build, and it fits the diagram
   pub one-build : (a b : List ℕ) → BuildOf d m a → BuildOf d m b → a ≡ b

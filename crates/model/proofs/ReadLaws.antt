@@ -46,7 +46,7 @@ module _ (ds ls ts : List ℕ) (m : List ℤ) where
 module _ (d : Lent) (m : List ℤ) (last : ℕ) where
   -- where they have passed, the build fits the diagram
   pub values-fit : chain (valueRules d m last) ≡ Passed → Fits d (buildOf d m)
-  values-fit q = let v = values-passed d m last q in build-fits d m (buildOf d m) (build-said d m (v .1) (v .2))
+  values-fit q = let v = values-passed d m last q in build-fits d m (buildOf d m) (build-said d m (v .0 .named-first) (v .1))
 
   -- ---- numbers 10 to 12, and then 13
 

@@ -21,6 +21,10 @@ literal m k = getD m k (pos 0)
 abbrev pub variable : List ℤ → ℕ → ℕ
 variable m k = natAbs (literal m k)
 
+-- some literal of the model names the variable
+abbrev pub Named : List ℤ → ℕ → Type 0
+Named m x = (k : ℕ) × (k < length m) × (variable m k ≡ x)
+
 -- the model names the variable true; a variable that it does not name counts as false
 abbrev pub NamedTrue : List ℤ → ℕ → Type 0
 NamedTrue m x = List·Memᴰ (plain x) m
@@ -58,11 +62,14 @@ module _ (d : Lent) (m : List ℤ) where
     pub is-said : BuildOf build
     pub allowed : RootAllows d (chosen build)
 
-  -- the model reads as this build: each literal is in range, none names a value variable again, the build is what the
-  -- model says, and the diagram allows it
-  pub record ReadsAs (e : Edition) (build : List ℕ) : Type 0 where
-    pub ranged : (k : ℕ) → k < length m → InRange (lastVariable e d) m k
+  -- 10 and 11: each literal is in range, and none names a value variable again
+  pub record WellNamed (last : ℕ) : Type 0 where
+    pub ranged : (k : ℕ) → k < length m → InRange last m k
     pub named-first : (k : ℕ) → k < length m → NamedFirst k
+
+  -- the model reads as this build: it names its variables well, the build is what it says, and the diagram allows the build
+  pub record ReadsAs (e : Edition) (build : List ℕ) : Type 0 where
+    pub well-named : WellNamed (lastVariable e d)
     pub is-said : BuildOf build
     pub allowed : RootAllows d (chosen build)
 
