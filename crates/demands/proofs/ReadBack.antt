@@ -58,7 +58,8 @@ says-build d last σ m named build f g =
       };
     }
 
--- so it reads as that build, whatever the clauses are, as long as each setting that satisfies them gives an allowed build
+-- so it reads as that build, whatever the clauses are, as long as they have the meaning of demand 3: that each setting which
+-- satisfies them gives an allowed build
 comes-back : (e : Edition) (d : Lent) → Sound d → {last : ℕ} {cs : List Clause} → last ≡ lastVariable e d → Meaning d last cs (Fits d) chosen → (σ : Setting) → Satisfies σ cs → (m : List ℤ) → Names d last σ m
     → (before : List ℕ) (answer : ModelAnswer) (after : List ℕ) → ModelPromise e d m before answer after → options d ≤ length before → ComesBack d σ before answer after
 comes-back e d s {last} {cs} v meaning σ sat m named before answer after p h =

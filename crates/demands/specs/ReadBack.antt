@@ -55,8 +55,8 @@ pub record ComesBack (d : Lent) (σ : Setting) (before : List ℕ) (answer : Mod
   pub front : take (options d) after ≡ build
   pub rest : drop (options d) after ≡ drop (options d) before
 
--- n entries were read as this build: it is what the named true literals say, gives each option a value of its range, and the
--- diagram allows it, so that it has exactly one setting; and the list is kept past it
+-- n entries were read as this build of a sound diagram: it is what the named true literals say, gives each option a value of
+-- its range, and the diagram allows it, so that it has exactly one setting; and the list is kept past it
 pub record WasRead (e : Edition) (d : Lent) (m : List ℤ) (n : ℕ) (before after : List ℕ) (build : List ℕ) : Type 0 where
   pub sound : Sound d
   pub counted : n ≡ options d

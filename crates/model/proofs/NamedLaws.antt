@@ -45,7 +45,7 @@ tests-10 last m =
 
 -- ---- the marks
 
--- a literal marks its variable, and with 1 where it is the variable itself
+-- a literal marks its variable, and with 1 only where it is the variable's own
 marks : (l : ℤ) → markOf l ≡ 0 → ⊥
 unfolding isNegative
 marks (pos n) e = omega arith
@@ -172,7 +172,7 @@ module _ (d : Lent) (m : List ℤ) where
       let once = tests-11 .none .0 (q₁₁ .0) in
       (record { ranged = tests-10 last m .none .0 (q₁₀ .0); named-first = once }, tests-12 once .none .0 (not-due 12 _ [] (q₁₁ .1) .0))
 
-  -- a model says one build, and it fits the diagram
+  -- a model says one build at most, and it fits the diagram
   pub one-build : (a b : List ℕ) → BuildOf d m a → BuildOf d m b → a ≡ b
   one-build a b p q = ext-getD 0 a b (p .whole ∙ sym (q .whole)) (λ i h. let l : i < options d = omega (arith, p .whole) in q .each i l .no-other (chosen a i) (p .each i l .in-range) (p .each i l .named-true))
 

@@ -1,5 +1,5 @@
 -- What the functions inside `read_model` say to each other of the marks: one byte for each value variable, the first
--- variable's first. No promise reads this. Assumes nothing.
+-- variable's first. No public promise reads this. Assumes nothing.
 use mathlib.Core.Path.{_≡_}
 use mathlib.Core.Bool.{Bool, not, cond, _&&_}
 use mathlib.Core.List.{List}

@@ -54,7 +54,7 @@ module _ (d : Lent) (isTrue : ℕ → Bool) where
   valuesTo n = upTo n (λ i. valueOf i ∷ [])
 
 module _ (d : Lent) (m : List ℤ) where
-  -- the whole model names the variable u + 1 true; one that it does not name counts as false
+  -- the last literal that names the variable u + 1 names it true; one that none names counts as false
   abbrev pub namesTrue : ℕ → Bool
   namesTrue u = eqb (mark m (length m) (suc u)) 1
 

@@ -305,7 +305,7 @@ fn copy_out(build: &[u32], out: &mut [u32])
     }
 }
 
-// The same: the build is made in `build`, and goes into `out` only where all pass.
+// Numbers 10 to 13: the build is made in `build`, and goes into `out` only where all pass.
 fn read_into(
     values: usize,
     last: u32,

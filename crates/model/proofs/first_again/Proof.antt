@@ -27,13 +27,14 @@ Inv-loop literals values marks₀ k₀ marks k = (k ≤ length literals) × (fir
 abbrev μ-loop : tie.MeasureT-loop
 μ-loop literals values marks₀ k₀ marks k = length literals - k
 
--- the literal of a turn, which the calls are handed as its bits
+-- the model, and where a turn stands in it
 abbrev m : tie.In-loop Inv-loop μ-loop → List ℤ
 m c = c .before .before .args .literals .now
 
 abbrev k : tie.In-loop Inv-loop μ-loop → ℕ
 k c = c .before .loop .k
 
+-- the turn's literal, which the calls are handed as its bits
 back : (c : tie.After-literal Inv-loop μ-loop) → toZ w32 (ofZ w32 (literal (m (c .before)) (k (c .before)))) ≡ literal (m (c .before)) (k (c .before))
 back c = toZ-ofZ w32 _ (record { sfits = c .literal .given })
 
