@@ -244,6 +244,7 @@ fn read_values(
 
 // ---- number 13
 
+// Of a sound diagram and a build that fits it `judge` refuses nothing.
 fn is_allowed(domains: &[u32], layers: &[u32], targets: &[u32], build: &[u32]) -> bool
     requires { ⌜ Sound (lent (now domains) (now layers) (now targets)) ⌝ }
     requires { ⌜ Fits (lent (now domains) (now layers) (now targets)) (now build) ⌝ }
