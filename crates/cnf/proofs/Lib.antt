@@ -2,3 +2,4 @@
 pub mod WordsLaws
 pub mod Propagation
 pub mod EncodedLaws
+pub mod LentLaws

@@ -174,6 +174,10 @@ pub closed-none : closed [] ≡ true
 unfolding closed
 closed-none = refl
 
+pub closed-empty : (ws : List ℤ) → length ws ≡ 0 → closed ws ≡ true
+closed-empty [] h = closed-none
+closed-empty (w ∷ ws) h = absurd (omega arith)
+
 -- as code tests it: the last word, or 0 where there is none
 pub closed-last : (ws : List ℤ) → closed ws ≡ isZero (getD ws (length ws - 1) (pos 0))
 unfolding closed isZero

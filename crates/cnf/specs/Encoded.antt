@@ -43,7 +43,7 @@ tally-same w c v w′ c′ v′ p q r = rw (p, q, r)
 value : ℕ → List ℕ → ℕ
 value k l = getD l k 0
 
-tally-said-once : (s t : Tally) → tallySaid s ≡ tallySaid t → s ≡ t
+pub tally-said-once : (s t : Tally) → tallySaid s ≡ tallySaid t → s ≡ t
 unfolding value
 tally-said-once s t p = tally-same _ _ _ _ _ _ (ap (value 0) p) (ap (value 1) p) (ap (value 2) p)
 

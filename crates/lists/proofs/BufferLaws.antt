@@ -7,7 +7,7 @@ use native.Mathlib.Nat.{add-zero, zero-add, add-suc, suc-add, le-add-right, le-o
 use native.Mathlib.Numerals.{add-one}
 use native.Mathlib.Omega.{arith}
 use lib.ListN.{length, getD, take, drop, set, length-append, length-drop, take-append-drop, drop-of-length-le}
-use lib.Seq.{sets, length-sets, sets-eq, drop-set-add, take-set-le, take-all, drop-cons, append-snoc, set-append-seam, take-append-seam, drop-append-seam}
+use lib.Seq.{sets, length-sets, sets-eq, set-comm, drop-set-add, take-set-le, take-all, drop-cons, append-snoc, set-append-seam, take-append-seam, drop-append-seam}
 use borrow.Rule.Slice.PartMut.{midOf, postOf, putMid}
 use Rattle.lists.specs.Upto.{upTo}
 use Rattle.lists.specs.Buffer.{over, Wrote, Front}
@@ -67,6 +67,10 @@ module _ {A : Type 0} where
   unfolding over
   sets-over ws l h = sets-eq ws l 0 (rw zero-add h) ∙ rw zero-add
 
+  sets-before : (l : List A) (at : ℕ) (ws : List A) (i : ℕ) (a : A) → i < at → set (sets l at ws) i a ≡ sets (set l i a) at ws
+  sets-before l at [] i a h = refl
+  sets-before l at (w ∷ ws) i a h = sets-before (set l at w) (suc at) ws i a (omega arith) ∙ rw (set-comm l at i w a (λ e. omega arith))
+
   -- nothing is written, and one word is stored
   pub none : (l : List A) (at : ℕ) → Wrote l at [] l at
   none l at = record { list = refl; next = omega arith }
@@ -86,6 +90,13 @@ module _ {A : Type 0} {l l₁ xs : List A} {at r₁ : ℕ} (a : Wrote l at xs l�
     next = omega (arith, length-append xs ys);
   }
 
+  -- one more word is stored before them
+  pub then-before : (i : ℕ) (w : A) → at ≡ i + 1 → Wrote l i (w ∷ xs) (set l₁ i w) r₁
+  then-before i w e = record {
+    list = ap (λ (q : List A). set q i w) (a .list) ∙ sets-before l at xs i w (omega arith) ∙ rw (e, add-one i);
+    next = omega (arith, a .next);
+  }
+
   -- room for both leaves room for the second
   pub then-room : (ys : List A) → at + length (xs ++ ys) ≤ length l → r₁ + length ys ≤ length l₁
   then-room ys h = omega (arith, length-append xs ys, kept)
@@ -93,6 +104,10 @@ module _ {A : Type 0} {l l₁ xs : List A} {at r₁ : ℕ} (a : Wrote l at xs l�
   -- the same words, said in another way
   pub wrote-as : {ys : List A} → xs ≡ ys → Wrote l at ys l₁ r₁
   wrote-as e = rw e at a
+
+  -- the same index past them, said in another way
+  pub wrote-next : {r : ℕ} → r₁ ≡ r → Wrote l at xs l₁ r
+  wrote-next e = rw e at a
 
   -- what was written is told by what it was written into
   pub wrote-same : {l₂ : List A} {r₂ : ℕ} → Wrote l at xs l₂ r₂ → (l₁ ≡ l₂) × (r₁ ≡ r₂)

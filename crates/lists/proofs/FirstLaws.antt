@@ -1,7 +1,7 @@
 -- Laws of the first index at which a test holds: a loop's three exits, and that the index is the least; and of the count of
 -- such indices, where it is none or one. Assumes nothing.
 use mathlib.Core.Path.{_≡_, refl, sym, _∙_, ap}
-use mathlib.Core.Bool.{Bool, true, false, not, cond}
+use mathlib.Core.Bool.{Bool, true, false, not, cond, true≢false}
 use mathlib.Core.Logic.{_⊎_, inl, inr, ⊎-elim, _↔_}
 use Prim.Native.Nat.{ℕ, zero, suc, _+_, _-_, _≤_, _<_}
 use native.Mathlib.Numerals.{add-one}
@@ -231,7 +231,7 @@ module _ (bad : ℕ → Bool) (P : ℕ → Type 0) (n : ℕ) (good : (k : ℕ) �
       }
 
 -- one test, due at a given place where a condition fails
-tests-at : (place : ℕ) (bad : Bool) (P : Type 0) → (bad ≡ false → P) → (bad ≡ true → P → ⊥) → Tests (foundIf bad place) (λ p. (p ≡ place) × (P → ⊥)) P
+pub tests-at : (place : ℕ) (bad : Bool) (P : Type 0) → (bad ≡ false → P) → (bad ≡ true → P → ⊥) → Tests (foundIf bad place) (λ p. (p ≡ place) × (P → ⊥)) P
 tests-at place true P good not-good =
     record {
       at = λ p. ((λ e. (if-at true place p e .1, not-good refl)), (λ w. ap At (sym (w .0))));
@@ -246,9 +246,16 @@ tests-at place false P good not-good =
 pub tests-one : (bad : Bool) (P : Type 0) → (bad ≡ false → P) → (bad ≡ true → P → ⊥) → Tests (foundIf bad 0) (λ p. (p ≡ 0) × (P → ⊥)) P
 tests-one = tests-at 0
 
+-- one test that has to hold
+pub tests-held : (place : ℕ) (good : Bool) → Tests (foundIf (not good) place) (λ p. (p ≡ place) × (good ≡ true → ⊥)) (good ≡ true)
+tests-held place good = tests-at place (not good) (good ≡ true) (not-false good) (λ e h. true≢false (sym h ∙ not-true good e))
+
 -- one test of two numbers that have to be equal
+pub tests-equal-at : (place a b : ℕ) → Tests (foundIf (not (eqb a b)) place) (λ p. (p ≡ place) × (a ≡ b → ⊥)) (a ≡ b)
+tests-equal-at place a b = tests-at place (not (eqb a b)) (a ≡ b) (λ e. eqb-true a b (not-false (eqb a b) e)) (λ e. eqb-false a b (not-true (eqb a b) e))
+
 pub tests-equal : (a b : ℕ) → Tests (foundIf (not (eqb a b)) 0) (λ p. (p ≡ 0) × (a ≡ b → ⊥)) (a ≡ b)
-tests-equal a b = tests-one (not (eqb a b)) _ (λ e. eqb-true a b (not-false (eqb a b) e)) (λ e. eqb-false a b (not-true (eqb a b) e))
+tests-equal = tests-equal-at 0
 
 -- one test of a buffer's length against the length needed, which is the place
 pub tests-room : (room needed : ℕ) → Tests (foundIf (ltb room needed) needed) (λ p. (p ≡ needed) × (needed ≤ room → ⊥)) (needed ≤ room)

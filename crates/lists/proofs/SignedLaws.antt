@@ -2,11 +2,11 @@
 -- magnitude of a word are in code. Assumes nothing.
 use mathlib.Core.Path.{_≡_, refl, sym, ap, _∙_, subst}
 use mathlib.Core.Bool.{true, false}
-use Prim.Native.Nat.{ℕ, zero, suc, _-_, _<_, _^_}
+use Prim.Native.Nat.{ℕ, zero, suc, _-_, _<_, _≤_, _^_}
 use native.Mathlib.Nat.{zero-add}
 use native.Mathlib.Omega.{arith}
 use lib.Dec.{T, eqb, leb·suc-suc}
-use lib.IntN.{ℤ, pos, negsuc, negℤ, natAbs, _-ℤ_, +ℤ-idl}
+use lib.IntN.{ℤ, pos, negsuc, negℤ, natAbs, _+ℤ_, _-ℤ_, +ℤ-idl}
 use lib.Signed.{ltZ, nonNeg}
 use mir.Syntax.{w32}
 use mir.Val.{SFits, Fits, ofZ, toZ}
@@ -60,10 +60,40 @@ neg-abs z {y} e h = ap (λ (x : ℤ). pos 0 -ℤ x) e ∙ go z h
     go (pos n) h = let w : _≡_ {A = ℕ} 0 1 = cc in absurd (omega arith)
     go (negsuc n) h = ap pos (zero-add (suc n))
 
+-- the same where one more is added before the sign is turned: that fits for every word
+next-of : (n : ℕ) → negsuc n +ℤ pos 1 ≡ negℤ (pos n)
+next-of zero = refl
+next-of (suc n) = rw (lt-ltb 1 (suc (suc n)) (omega arith)) (ap negsuc (omega arith))
+
+pub neg-next : (z : ℤ) {y : ℤ} → y ≡ z → isNegative z ≡ true → y +ℤ pos 1 ≡ negℤ (pos (natAbs z - 1))
+unfolding isNegative
+neg-next z {y} e h = ap (λ (x : ℤ). x +ℤ pos 1) e ∙ go z h
+  where
+    go : (z : ℤ) → isNegative z ≡ true → z +ℤ pos 1 ≡ negℤ (pos (natAbs z - 1))
+    go (pos n) h = let w : _≡_ {A = ℕ} 0 1 = cc in absurd (omega arith)
+    go (negsuc n) h = let q : suc n - 1 ≡ n = omega arith in rw q (next-of n)
+
+pub neg-some : (z : ℤ) → isNegative z ≡ true → 1 ≤ natAbs z
+unfolding isNegative
+neg-some (pos n) h = let w : _≡_ {A = ℕ} 0 1 = cc in absurd (omega arith)
+neg-some (negsuc n) h = omega arith
+
+pub turned : (n : ℕ) {y : ℤ} → y ≡ negℤ (pos n) → pos 0 -ℤ y ≡ pos n
+turned n {y} e = ap (λ (x : ℤ). pos 0 -ℤ x) e ∙ go n
+  where
+    go : (n : ℕ) → pos 0 -ℤ negℤ (pos n) ≡ pos n
+    go zero = refl
+    go (suc n) = ap pos (zero-add (suc n))
+
 pub plus-abs : (z : ℤ) → isNegative z ≡ false → z ≡ pos (natAbs z)
 unfolding isNegative
 plus-abs (pos n) h = refl
 plus-abs (negsuc n) h = let w : _≡_ {A = ℕ} 0 1 = cc in absurd (omega arith)
+
+pub plus-small : (z : ℤ) → SFits w32 z → isNegative z ≡ false → natAbs z < 2 ^ 31
+unfolding isNegative
+plus-small (pos n) k h = k .sfits
+plus-small (negsuc n) k h = let w : _≡_ {A = ℕ} 0 1 = cc in absurd (omega arith)
 
 pub fits-of : (x : ℤ) (n : ℕ) → x ≡ pos n → n < 2 ^ 31 → SFits w32 x
 fits-of x n e h = subst (SFits w32) (sym e) (record { sfits = h })
@@ -75,6 +105,10 @@ cast-of x n e h = subst (λ (x : ℤ). T (nonNeg x) × Fits w32 (natAbs x)) (sym
 pub abs-fits : (z : ℤ) → natAbs z < 2 ^ 31 → SFits w32 z
 abs-fits (pos n) h = record { sfits = h }
 abs-fits (negsuc n) h = record { sfits = omega arith }
+
+pub fits-abs : (z : ℤ) → SFits w32 z → natAbs z ≤ 2 ^ 31
+fits-abs (pos n) h = let k = h .sfits in omega arith
+fits-abs (negsuc n) h = let k = h .sfits in omega arith
 
 -- ---- beyond v: compared at both ends, above v first and then below -v
 

@@ -1,8 +1,8 @@
 -- Laws of sums, lists and counts built index by index. Assumes nothing.
 use mathlib.Core.Path.{_≡_, refl, sym, _∙_, ap, subst}
 use mathlib.Core.Logic.{_⊎_, inl, inr, ⊎-elim}
-use mathlib.Core.Bool.{Bool, true, false, cond, true≢false}
-use mathlib.Core.List.{List, [], _∷_, _++_, List·Memᴰ, List·Memᴰ·not-nil, List·Memᴰ·append-cases, Memᴰ·append-left, Memᴰ·append-right}
+use mathlib.Core.Bool.{Bool, true, false, cond, _||_, true≢false}
+use mathlib.Core.List.{List, [], _∷_, _++_, append-assoc, append-nil, List·Memᴰ, List·Memᴰ·not-nil, List·Memᴰ·append-cases, Memᴰ·append-left, Memᴰ·append-right}
 use Prim.Native.Nat.{ℕ, zero, suc, _+_, _-_, _*_, _≤_, _<_}
 use native.Mathlib.Nat.{eq-or-lt-of-le, not-suc-le-zero, add-zero, mul-suc, suc-mul}
 use native.Mathlib.Decide.{decLt}
@@ -27,6 +27,11 @@ decide false = inr refl
 pub is-false : (b : Bool) → (b ≡ true → ⊥) → b ≡ false
 is-false true h = absurd (h refl)
 is-false false h = refl
+
+-- where one or the other is not true, neither is
+pub both-false : (a b : Bool) → (a || b) ≡ false → (a ≡ false) × (b ≡ false)
+both-false false b e = (refl, e)
+both-false true b e = (cc, cc)
 
 -- a number lies below another, or not
 pub below-or-not : (a b : ℕ) → (a < b) ⊎ (b ≤ a)
@@ -128,6 +133,12 @@ module _ {ℓ} {A : Type ℓ} (f : ℕ → List A) where
   pub list-more : (n : ℕ) → upTo (n + 1) f ≡ upTo n f ++ f n
   unfolding upTo
   list-more n = rw add-one
+
+  -- the first entry, and then the later ones
+  pub list-front : (n : ℕ) → upTo (suc n) f ≡ f 0 ++ upTo n (λ k. f (suc k))
+  unfolding upTo
+  list-front zero = sym (append-nil (f 0))
+  list-front (suc n) = rw (list-front n) (append-assoc (f 0) (upTo n (λ k. f (suc k))) (f (suc n)))
 
   pub list-length : (n : ℕ) → length (upTo n f) ≡ sumTo n (λ k. length (f k))
   unfolding upTo sumTo

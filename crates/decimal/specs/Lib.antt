@@ -1,0 +1,5 @@
+-- What this crate defines. Assumes nothing.
+pub mod Digits
+pub mod Bytes
+pub mod Writing
+pub mod Reading

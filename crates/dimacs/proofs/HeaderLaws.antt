@@ -1,0 +1,130 @@
+-- Laws of a clause text's header: it is read exactly where its line stands, and the writer writes such a line. Assumes
+-- nothing.
+use mathlib.Core.Path.{_≡_, refl, sym, ap, _∙_}
+use mathlib.Core.Bool.{true, false, and-eq-true-iff}
+use mathlib.Core.List.{List, [], _∷_, _++_, append-assoc}
+use Prim.Native.Nat.{ℕ, _+_, _^_, _≤_, _<_}
+use native.Mathlib.Omega.{arith}
+use lib.IntN.{ℤ}
+use lib.ListN.{length, drop, length-append, length-drop}
+use lib.Seq.{drop-drop, drop-append-seam}
+use Rattle.decimal.specs.Digits.{isDigit, isDecimal, value, digits}
+use Rattle.decimal.specs.Bytes.{startsWith, hasAt}
+use Rattle.decimal.specs.Reading.{run, cut}
+use Rattle.decimal.specs.declared.Reading.{Reading}
+use Rattle.decimal.proofs.DigitsLaws.{decimal-digits, digits-decimal}
+use Rattle.decimal.proofs.RunLaws.{run-before, run-split}
+use Rattle.decimal.proofs.BytesLaws.{has-inside, starts-with, with-start}
+use Rattle.cnf.specs.Words.{zeros}
+use Rattle.dimacs.specs.Text.{head, space, lineFeed, body, headerLine, textOf}
+use Rattle.dimacs.specs.Header.{comments, HeaderLine, fieldAt, variablesAt, clausesAt, isHeader, afterHeader}
+use Rattle.dimacs.specs.Rules.{headerStart}
+
+-- ---- one field of the line: digits, and a byte b after them
+
+module _ (text : List ℕ) (at b : ℕ) where
+  -- what is left past n bytes and one more
+  past-one : (n : ℕ) → drop (at + n + 1) text ≡ drop 1 (drop n (drop at text))
+  past-one n = sym (ap (drop 1) (drop-drop n at text) ∙ drop-drop 1 (at + n) text)
+
+  -- what is read where a decimal stands, and b is no digit
+  field-read : (ds rest : List ℕ) → isDecimal ds ≡ true → isDigit b ≡ false → drop at text ≡ ds ++ (b ∷ rest)
+      → (run (drop at text) ≡ ds) × (hasAt text (at + length ds) (b ∷ []) ≡ true) × (drop (at + length ds + 1) text ≡ rest)
+  field-read ds rest h n e =
+      let s : drop (length ds) (drop at text) ≡ b ∷ rest = ap (drop (length ds)) e ∙ drop-append-seam ds (b ∷ rest) in (
+        ap run e ∙ run-before ds b rest (decimal-digits ds h) n,
+        ap (startsWith (b ∷ [])) (sym (drop-drop (length ds) at text) ∙ s) ∙ with-start (b ∷ []) rest,
+        past-one (length ds) ∙ ap (drop 1) s,
+      )
+
+  -- what stands there where b follows the digits that are read
+  read-field : hasAt text (at + length (run (drop at text))) (b ∷ []) ≡ true → drop at text ≡ run (drop at text) ++ (b ∷ drop (at + length (run (drop at text)) + 1) text)
+  read-field h =
+      let n : ℕ = length (run (drop at text)) in
+      sym (run-split (drop at text))
+      ∙ ap (λ (l : List ℕ). run (drop at text) ++ l) (drop-drop n at text ∙ starts-with (b ∷ []) (drop (at + n) text) h ∙ ap (λ (l : List ℕ). b ∷ l) (drop-drop 1 (at + n) text))
+
+-- ---- the line
+
+-- what is read of a header's line at `at`
+pub record HeaderSays (text : List ℕ) (at : ℕ) (ds es rest : List ℕ) : Type 0 where
+  pub is-header : isHeader text at ≡ true
+  pub variables : variablesAt text at .value ≡ cut (value ds)
+  pub clauses : clausesAt text at .value ≡ cut (value es)
+  pub variables-end : variablesAt text at .end ≡ at + 6 + length ds
+  pub after : afterHeader text at ≡ at + 6 + length ds + 1 + length es + 1
+  pub left : drop (afterHeader text at) text ≡ rest
+
+module _ (text : List ℕ) (at : ℕ) where
+  -- it is read where the line stands; and the line stands where it is read
+  pub line-header : (ds es rest : List ℕ) → HeaderLine (drop at text) ds es rest → HeaderSays text at ds es rest
+  unfolding isHeader isDigit
+  line-header ds es rest h =
+      let k : hasAt text at head ≡ true = rw (h .line) (with-start head _) in
+      let e : drop (at + 6) text ≡ ds ++ (space ∷ (es ++ (lineFeed ∷ rest))) = sym (drop-drop 6 at text) ∙ ap (drop 6) (h .line) in
+      let v = field-read text (at + 6) space ds (es ++ (lineFeed ∷ rest)) (h .variables) refl e in
+      let c = field-read text (at + 6 + length ds + 1) lineFeed es rest (h .clauses) refl (v .2) in
+      record {
+        is-header = rw (k, v .0, h .variables, v .1, c .0, h .clauses, c .1);
+        variables = rw (v .0);
+        clauses = rw (v .0, c .0);
+        variables-end = rw (v .0);
+        after = rw (v .0, c .0);
+        left = rw (v .0, c .0, c .2);
+      }
+
+  pub header-line : isHeader text at ≡ true → (ds : List ℕ) × (es : List ℕ) × (rest : List ℕ) × HeaderLine (drop at text) ds es rest × HeaderSays text at ds es rest
+  unfolding isHeader
+  header-line h =
+      let a = and-eq-true-iff (hasAt text at head) _ .0 h in
+      let f = and-eq-true-iff (fieldAt text (variablesAt text at) space) _ .0 (a .1) in
+      let b = and-eq-true-iff (variablesAt text at .good) _ .0 (f .0) in
+      let d = and-eq-true-iff (clausesAt text at .good) _ .0 (f .1) in
+      let ds : List ℕ = run (drop (at + 6) text) in
+      let es : List ℕ = run (drop (variablesAt text at .end + 1) text) in
+      let rest : List ℕ = drop (afterHeader text at) text in
+      let v : drop (at + 6) text ≡ ds ++ (space ∷ (es ++ (lineFeed ∷ rest)))
+      = read-field text (at + 6) space (b .1) ∙ ap (λ (l : List ℕ). ds ++ (space ∷ l)) (read-field text (variablesAt text at .end + 1) lineFeed (d .1)) in
+      let l : HeaderLine (drop at text) ds es rest
+      = record { line = starts-with head (drop at text) (a .0) ∙ ap (λ (l : List ℕ). head ++ l) (drop-drop 6 at text ∙ v); variables = b .0; clauses = d .0 } in
+      (ds, es, rest, l, line-header ds es rest l)
+
+  -- all that is read of it lies inside the text
+  pub header-inside : isHeader text at ≡ true → (at + 6 ≤ length text) × (variablesAt text at .end + 1 ≤ length text) × (afterHeader text at ≤ length text)
+  header-inside h =
+      let w = header-line h in
+      let s = w .4 in
+      let e = simp (length-append, length-drop) at (ap length (w .3 .line)) in
+      (omega arith, omega arith, omega arith)
+
+-- ---- as code comes to it, part by part
+
+module _ (text : List ℕ) (at : ℕ) where
+  pub no-head : hasAt text at head ≡ false → false ≡ isHeader text at
+  unfolding isHeader
+  no-head e = rw e
+
+  module _ (h : hasAt text at head ≡ true) where
+    pub no-variables : fieldAt text (variablesAt text at) space ≡ false → false ≡ isHeader text at
+    unfolding isHeader
+    no-variables e = rw (h, e)
+
+    pub by-clauses : fieldAt text (variablesAt text at) space ≡ true → fieldAt text (clausesAt text at) lineFeed ≡ isHeader text at
+    unfolding isHeader
+    by-clauses e = rw (h, e)
+
+-- a field's byte lies inside the text
+pub field-inside : (text : List ℕ) (r : Reading) (b : ℕ) → fieldAt text r b ≡ true → r .end + 1 ≤ length text
+field-inside text r b e = has-inside text (r .end) b [] (and-eq-true-iff (r .good) _ .0 e .1)
+
+-- ---- the text that is written
+
+module _ (v : ℕ) (ws : List ℤ) where
+  -- it begins with its header
+  pub no-comments : headerStart (textOf v ws) ≡ 0
+  unfolding comments textOf headerLine
+  no-comments = refl
+
+  pub text-header : v < 10 ^ 20 → zeros ws < 10 ^ 20 → HeaderLine (textOf v ws) (digits v) (digits (zeros ws)) (body ws)
+  unfolding textOf headerLine
+  text-header h k = record { line = simp append-assoc; variables = digits-decimal v h; clauses = digits-decimal (zeros ws) k }

@@ -1,0 +1,11 @@
+-- The laws of this crate that others cite. Assumes nothing.
+pub mod CommentLaws
+pub mod TokenLaws
+pub mod JudgeLaws
+pub mod PassLaws
+pub mod BodyLaws
+pub mod HeaderLaws
+pub mod ReadTable
+pub mod WriteLaws
+pub mod ReadLaws
+pub mod RoundTrip

@@ -1,0 +1,9 @@
+-- What this crate defines. Assumes nothing.
+pub mod Text
+pub mod Tokens
+pub mod Header
+pub mod Rules
+pub mod Passes
+pub mod Write
+pub mod Read
+pub mod RoundTrip

@@ -1,0 +1,43 @@
+-- What the reader's functions have found of a token, and of all tokens, when they return: internal, for their contracts.
+-- Assumes nothing.
+use mathlib.Core.Path.{_≡_}
+use mathlib.Core.Bool.{true, false, _&&_}
+use mathlib.Core.List.{List}
+use Prim.Native.Nat.{ℕ, _+_}
+use lib.Dec.{ltb}
+use lib.ListN.{length, drop}
+use Rattle.lists.specs.Signed.{isZero, beyond}
+use Rattle.decimal.specs.Reading.{positiveAt}
+use Rattle.refusal.specs.Rules.{chain}
+use Rattle.refusal.specs.declared.Verdict.the-variants as verdict
+use Rattle.cnf.specs.Words.{zeros, closed}
+use Rattle.dimacs.specs.Tokens.{lead, ended, Token, formed, wordOf, wordsOf}
+use Rattle.dimacs.specs.Rules.{tokenRules}
+use Rattle.dimacs.specs.declared.reader.Judged.{Judged}
+use Rattle.dimacs.specs.declared.reader.Judged.the-variants.{Misformed, Beyond, Zero, Literal}
+use Rattle.dimacs.specs.declared.reader.Pass.{Pass}
+use Rattle.dimacs.specs.declared.reader.Pass.the-variants.{Refused, Counted}
+
+-- a token's bytes are well formed and no literal beyond v
+pub record Good (v : ℕ) (t : List ℕ) : Type 0 where
+  pub is-formed : formed t ≡ true
+  pub in-range : beyond v (wordOf t) ≡ false
+
+-- the token at i, for variables up to v
+abbrev pub TokenJudged : ℕ → List ℕ → ℕ → Judged → Type 0
+TokenJudged v text i Misformed = formed (lead (drop i text)) ≡ false
+TokenJudged v text i Beyond = (formed (lead (drop i text)) ≡ true) × (beyond v (wordOf (lead (drop i text))) ≡ true)
+TokenJudged v text i (Zero end) = Good v (lead (drop i text)) × (isZero (wordOf (lead (drop i text))) ≡ true) × (end ≡ i + length (lead (drop i text)))
+TokenJudged v text i (Literal end) = Good v (lead (drop i text)) × (isZero (wordOf (lead (drop i text))) ≡ false) × (end ≡ i + length (lead (drop i text)))
+
+-- a number other than 0 that stands from `from` on, as a token's digits
+abbrev pub DigitsJudged : ℕ → List ℕ → ℕ → Judged → Type 0
+DigitsJudged v text from Misformed = (positiveAt text from .good && ended (drop (positiveAt text from .end) text)) ≡ false
+DigitsJudged v text from Beyond = ((positiveAt text from .good && ended (drop (positiveAt text from .end) text)) ≡ true) × (ltb v (positiveAt text from .value) ≡ true)
+DigitsJudged v text from (Zero end) = ⊥
+DigitsJudged v text from (Literal end) = ((positiveAt text from .good && ended (drop (positiveAt text from .end) text)) ≡ true) × (ltb v (positiveAt text from .value) ≡ false) × (end ≡ positiveAt text from .end)
+
+-- all tokens: the first refusal that is due, or how many words and clauses they are, and whether the last clause is closed
+abbrev pub PassedOver : ℕ → List Token → Pass → Type 0
+PassedOver v ts (Refused r) = chain (tokenRules v ts) ≡ verdict.Refused r
+PassedOver v ts (Counted c) = (chain (tokenRules v ts) ≡ verdict.Passed) × (c .words ≡ length ts) × (c .clauses ≡ zeros (wordsOf ts)) × (c .closed ≡ closed (wordsOf ts))

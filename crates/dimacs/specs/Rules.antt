@@ -1,0 +1,94 @@
+-- What is refused of a clause text, numbers 17, 16, 18, 14, 15, 19 and 7: as rules that compute, and as a table. Assumes
+-- nothing.
+use mathlib.Core.Path.{_≡_}
+use mathlib.Core.Bool.{true, false, not}
+use mathlib.Core.List.{List, [], _∷_, _++_}
+use Prim.Native.Nat.{ℕ, _≤_, _<_}
+use lib.Dec.{eqb}
+use lib.IntN.{ℤ, natAbs}
+use lib.ListN.{length, drop, getD}
+use Rattle.lists.specs.First.{foundIf}
+use Rattle.lists.specs.Signed.{beyond}
+use Rattle.refusal.specs.Rules.{Rule, rule, roomRule}
+use Rattle.refusal.specs.Table.{Row, row, roomRow}
+use Rattle.cnf.specs.Words.{zeros, closed}
+use Rattle.cnf.specs.Lent.{CountsFit, tooMany}
+use Rattle.dimacs.specs.Tokens.{Token, tokens, formed, wordOf, wordsOf}
+use Rattle.dimacs.specs.Header.{comments, HeaderLine, variablesAt, clausesAt, isHeader, afterHeader}
+
+-- tokens are judged from the left, 18 before 14 for one token, for variables up to v
+unfoldable pub tokenRules : ℕ → List Token → List Rule
+tokenRules v [] = []
+tokenRules v (t ∷ ts) = rule 18 (foundIf (not (formed (t .bytes))) (t .start)) ∷ rule 14 (foundIf (beyond v (wordOf (t .bytes))) (t .start)) ∷ tokenRules v ts
+
+-- the words end in a 0, are as many clauses as the header says, and fit into a lent list of `room`; the text has `size` bytes
+unfoldable pub endRules : ℕ → ℕ → List ℤ → ℕ → List Rule
+endRules size clauses ws room =
+    rule 15 (foundIf (not (closed ws)) size)
+    ∷ rule 19 (foundIf (not (eqb (zeros ws) clauses)) (zeros ws))
+    ∷ roomRule (length ws) room
+    ∷ []
+
+module _ (text : List ℕ) where
+  -- where the header's line begins, and what it says
+  abbrev pub headerStart : ℕ
+  headerStart = comments false text
+
+  abbrev pub headerVariables : ℕ
+  headerVariables = variablesAt text headerStart .value
+
+  abbrev pub headerClauses : ℕ
+  headerClauses = clausesAt text headerStart .value
+
+  -- the tokens after it, and their words
+  abbrev pub tokensFrom : ℕ → List Token
+  tokensFrom at = tokens false at (drop at text)
+
+  abbrev pub textTokens : List Token
+  textTokens = tokensFrom (afterHeader text headerStart)
+
+  abbrev pub textWords : List ℤ
+  textWords = wordsOf textTokens
+
+  -- ---- the rules
+
+  unfoldable pub headerRules : List Rule
+  headerRules =
+      rule 17 (foundIf (not (isHeader text headerStart)) headerStart)
+      ∷ rule 16 (foundIf (tooMany headerVariables headerClauses) headerStart)
+      ∷ []
+
+  unfoldable pub readRules : ℕ → List Rule
+  readRules room = headerRules ++ (tokenRules headerVariables textTokens ++ endRules (length text) headerClauses textWords room)
+
+  -- ---- the table
+
+  -- the bytes of the token with the index k, and its place
+  abbrev pub tokenBytes : ℕ → List ℕ
+  tokenBytes k = getD textTokens k (record { start = 0; bytes = [] }) .bytes
+
+  abbrev pub tokenStart : ℕ → ℕ
+  tokenStart k = getD textTokens k (record { start = 0; bytes = [] }) .start
+
+  abbrev pub Formed : ℕ → Type 0
+  Formed k = formed (tokenBytes k) ≡ true
+
+  abbrev pub InRange : ℕ → Type 0
+  InRange k = natAbs (wordOf (tokenBytes k)) ≤ headerVariables
+
+  -- the token with the index k begins at the place p, and those before it are well formed and in range
+  pub record FirstAt (k p : ℕ) : Type 0 where
+    pub is-token : k < length textTokens
+    pub begins : p ≡ tokenStart k
+    pub before : (j : ℕ) → j < k → Formed j × InRange j
+
+  abbrev pub readTable : ℕ → List Row
+  readTable room =
+      row 17 (λ p. (p ≡ headerStart) × ((ds es rest : List ℕ) → HeaderLine (drop headerStart text) ds es rest → ⊥))
+      ∷ row 16 (λ p. (p ≡ headerStart) × (CountsFit headerVariables headerClauses → ⊥))
+      ∷ row 18 (λ p. (k : ℕ) × FirstAt k p × (Formed k → ⊥))
+      ∷ row 14 (λ p. (k : ℕ) × FirstAt k p × Formed k × (InRange k → ⊥))
+      ∷ row 15 (λ p. (p ≡ length text) × (closed textWords ≡ true → ⊥))
+      ∷ row 19 (λ p. (p ≡ zeros textWords) × (zeros textWords ≡ headerClauses → ⊥))
+      ∷ roomRow (length textWords) room
+      ∷ []

@@ -1,0 +1,45 @@
+-- The clause text of a word list, as the writer writes it. Assumes nothing.
+use mathlib.Core.Bool.{cond}
+use mathlib.Core.List.{List, [], _∷_, _++_}
+use Prim.Native.Nat.{ℕ, suc}
+use lib.IntN.{ℤ, pos, negsuc}
+use lib.ListN.{length}
+use Rattle.lists.specs.Upto.{upTo}
+use Rattle.lists.specs.Signed.{isZero}
+use Rattle.decimal.specs.Digits.{digits}
+use Rattle.cnf.specs.Words.{zeros}
+use Rattle.cnf.specs.Lent.{word}
+
+-- the six bytes "p cnf "
+abbrev pub head : List ℕ
+head = 112 ∷ 32 ∷ 99 ∷ 110 ∷ 102 ∷ 32 ∷ []
+
+-- a space, a line feed, and a minus
+abbrev pub space : ℕ
+space = 32
+
+abbrev pub lineFeed : ℕ
+lineFeed = 10
+
+abbrev pub minus : ℕ
+minus = 45
+
+-- a word's decimal, after a minus where it is negative
+unfoldable pub literalText : ℤ → List ℕ
+literalText (pos n) = digits n
+literalText (negsuc n) = minus ∷ digits (suc n)
+
+-- and the byte that follows: a line feed after the 0 that closes a clause, else a space
+unfoldable pub wordText : ℤ → List ℕ
+wordText z = literalText z ++ (cond (isZero z) lineFeed space ∷ [])
+
+-- all words: so that each clause is a line
+unfoldable pub body : List ℤ → List ℕ
+body ws = upTo (length ws) (λ k. wordText (word ws k))
+
+-- the header's line
+unfoldable pub headerLine : ℕ → ℕ → List ℕ
+headerLine v clauses = head ++ (digits v ++ (space ∷ (digits clauses ++ (lineFeed ∷ []))))
+
+unfoldable pub textOf : ℕ → List ℤ → List ℕ
+textOf v ws = headerLine v (zeros ws) ++ body ws
