@@ -8,7 +8,7 @@ use lib.ListN.{length, take, drop}
 use lib.IntN.{ℤ}
 use lib.Dec.{T}
 use Rattle.lists.specs.Buffer.{over}
-use Rattle.lists.proofs.BufferLaws.{over-take, over-drop}
+use Rattle.lists.proofs.BufferLaws.{over-parts}
 use Rattle.refusal.specs.Rules.{Rule, refusal, roomRule, chain}
 use Rattle.refusal.specs.Said.{result}
 use Rattle.refusal.specs.Table.{Row, numbers, ExactlyWhen}
@@ -68,4 +68,4 @@ module _ (cs : List Clause) (last : ℕ) (before : List ℤ) where
         let w = written-exactly t .0 q in
         let n : t .words ≡ length (words cs) = ap (λ (t : Tally). t .words) (w .1) in
         let b : after ≡ over (words cs) before = tells .told-leaves (w .0) in
-        rw (n, b) (over-take (words cs) before, over-drop (words cs) before)
+        over-parts (words cs) before n b

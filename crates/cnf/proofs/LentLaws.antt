@@ -12,8 +12,8 @@ use Rattle.lists.specs.First.{foundIf, first, FirstFailing}
 use Rattle.lists.specs.declared.Found.the-variants.{Nothing}
 use Rattle.lists.proofs.UptoLaws.{both-false}
 use Rattle.lists.proofs.FirstLaws.{Tests, tests-each, tests-at, tests-one, tests-held}
-use Rattle.refusal.specs.Rules.{chain}
-use Rattle.refusal.specs.declared.Verdict.the-variants.{Passed}
+use Rattle.refusal.specs.Rules.{refusal, chain}
+use Rattle.refusal.specs.declared.Verdict.the-variants.{Passed, Refused}
 use Rattle.refusal.proofs.RulesLaws.{not-due}
 use Rattle.refusal.proofs.TableLaws.{Faithful}
 use Rattle.cnf.specs.Words.{zeros, closed}
@@ -63,6 +63,11 @@ module _ (v : ℕ) (ws : List ℤ) where
   pub word-faithful : Faithful (wordRules v ws) (wordTable v ws)
   unfolding wordRules countedRules literalRules
   word-faithful = (refl, tests-limits .at, λ _. (refl, tests-words .at, λ _. (refl, tests-held (length ws) (closed ws) .at, λ _. tt)))
+
+  -- number 16 is due, and comes first
+  pub over-limits : (LimitsKept v ws → ⊥) → chain (wordRules v ws) ≡ Refused (refusal 16 0)
+  unfolding wordRules countedRules chain
+  over-limits h = rw (tests-limits .at 0 .1 (refl, h))
 
   pub words-well : chain (wordRules v ws) ≡ Passed → WellWords v ws
   unfolding wordRules countedRules literalRules

@@ -38,7 +38,7 @@ length-most (suc f) n h l = go (length-most f (n / 10)) (decLt n 10)
     go ih (yes s) = omega (arith, length-small n s)
     go ih (no s) = omega (arith, length-step n (omega arith) l, ih (omega (arith, rw pow-suc at h)) (omega arith))
 
-length-least : (f n : ℕ) → 10 ^ f ≤ n → n < 10 ^ 20 → suc f ≤ length (digits n)
+pub length-least : (f n : ℕ) → 10 ^ f ≤ n → n < 10 ^ 20 → suc f ≤ length (digits n)
 length-least zero n h l = length-pos n l
 length-least (suc f) n h l =
     let k = rw pow-suc at h in

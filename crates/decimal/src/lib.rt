@@ -8,6 +8,7 @@ pub use fixed::has;
 pub use fixed::put;
 pub use reader::read;
 pub use reader::read_positive;
+pub use writer::at_least;
 pub use writer::short_width;
 pub use writer::write;
 pub use writer::write_often;

@@ -12,7 +12,7 @@ ghost use Rattle.decimal.specs.Writing.{pair, four};
 // ---- how many digits
 
 // 1 where the number reaches the bound, 0 where it does not.
-fn at_least(n: u32, bound: u32) -> u32
+pub fn at_least(n: u32, bound: u32) -> u32
     ensures { λ r. ⌜ (r ≤ 1) × (r ≡ cond (leb bound n) 1 0) ⌝ }
 {
     if bound <= n { 1 } else { 0 }

@@ -4,6 +4,7 @@ pub mod Orders
 pub mod Meaning
 pub mod Listed
 pub mod Demand2
+pub mod TextRoundTrip
 pub mod Demand3
 pub mod ReadBack
 pub mod Samples

@@ -1,23 +1,33 @@
 -- Demand 2: `encode` writes exactly the list of its edition, and the words are clauses over the variables; which variable
--- has which number; and in edition 1 how many clauses, words and variables there are. The list itself is `clauses` of crate
--- `clauses`. Assumes nothing.
+-- has which number; in edition 1 how many clauses, words and variables there are; and that the list comes back from its
+-- clause text. The list itself is `clauses` of crate `clauses`. Assumes nothing.
 use mathlib.Core.Path.{_≡_}
 use mathlib.Core.Logic.{_⊎_}
 use mathlib.Core.Bool.{true}
-use mathlib.Core.List.{List, _∷_, List·Memᴰ}
+use mathlib.Core.List.{List, _∷_, _++_, List·Memᴰ}
 use Prim.Native.Nat.{ℕ, _+_, _-_, _*_, _/_, _≤_}
 use lib.IntN.{ℤ, pos, natAbs}
 use lib.ListN.{length, take, drop, replicate}
 use Rattle.lists.specs.Upto.{sumTo}
+use Rattle.lists.specs.Every.{Every}
 use Rattle.cnf.specs.Clause.{Clause, words}
 use Rattle.cnf.specs.Encoded.{tally}
 use Rattle.cnf.specs.Words.{clausesOf, zeros, closed}
 use Rattle.diagram.specs.Lent.{Lent, lent, options, nodes, domain, layer}
 use Rattle.diagram.specs.Sound.{Within, Sound}
+use Rattle.cnf.specs.declared.Tally.{Tally}
 use Rattle.cnf.specs.declared.Encoded.the-variants.{Written}
 use Rattle.cnf.specs.declared.EncodeAnswer.{EncodeAnswer}
 use Rattle.clauses.specs.Variables.{valueVariable, referenceVariable, edgeVariable}
 use Rattle.clauses.specs.Clauses.{Edition, edition1, lastVariable, clauses}
+use Rattle.encoder.specs.Promise.{EncodePromise}
+use Rattle.dimacs.specs.Text.{headerLine, textOf, linesOf, TextByte}
+use Rattle.dimacs.specs.Write.{WritePromise}
+use Rattle.dimacs.specs.Read.{ReadPromise}
+use Rattle.dimacs.specs.declared.WriteAnswer.{WriteAnswer}
+use Rattle.dimacs.specs.declared.TextWritten.the-variants as text
+use Rattle.dimacs.specs.declared.ReadAnswer.{ReadAnswer}
+use Rattle.dimacs.specs.declared.TextRead.the-variants.{Read}
 
 -- what `encode` has done where the diagram is sound and its words fit: it has answered with the list's own counts, the
 -- buffer begins with exactly the list's words, and holds what it held past them
@@ -76,3 +86,18 @@ pub record WellFormed (e : Edition) (d : Lent) : Type 0 where
   pub all-closed : closed (words (clauses e d)) ≡ true
   pub one-zero-each : zeros (words (clauses e d)) ≡ length (clauses e d)
   pub told-back : clausesOf (words (clauses e d)) ≡ clauses e d
+
+-- the list as clause text. The text is the header's line, with V and the number of clauses, and then a line a clause, and has
+-- no bytes but digits, spaces, minuses, line feeds and the header's letters. What `encode` has written is accepted by
+-- `write_text`; and `read_text` of the bytes that `write_text` has written gives the same words, their number, the number of
+-- clauses and V, wherever the lent buffers are long enough
+pub record TextRoundTrip (e : Edition) (d : Lent) : Type 0 where
+  pub the-text : textOf (lastVariable e d) (words (clauses e d)) ≡ headerLine (lastVariable e d) (length (clauses e d)) ++ linesOf (clauses e d)
+  pub its-bytes : Every TextByte (textOf (lastVariable e d) (words (clauses e d)))
+  pub accepted : (before after : List ℤ) (encoded : EncodeAnswer) (t : Tally) → EncodePromise e d before encoded after → encoded .outcome ≡ Written t
+      → (page page′ : List ℕ) (answer : WriteAnswer) → WritePromise (t .variables) (take (t .words) after) page answer page′ → length (textOf (t .variables) (take (t .words) after)) ≤ length page
+      → answer .outcome ≡ text.Written (length (textOf (t .variables) (take (t .words) after)))
+  pub given-back : (before after : List ℤ) (encoded : EncodeAnswer) (t : Tally) → EncodePromise e d before encoded after → encoded .outcome ≡ Written t
+      → (page page′ : List ℕ) (answer : WriteAnswer) (n : ℕ) → WritePromise (t .variables) (take (t .words) after) page answer page′ → answer .outcome ≡ text.Written n
+      → (lent list : List ℤ) (read : ReadAnswer) → ReadPromise (take n page′) lent read list → t .words ≤ length lent
+      → (read .outcome ≡ Read t) × (take (t .words) list ≡ take (t .words) after) × (drop (t .words) list ≡ drop (t .words) lent)

@@ -10,7 +10,7 @@ use native.Mathlib.Omega.{arith}
 use lib.Dec.{ltb, eqb}
 use borrow.Author.Tests.{ltb-true, ltb-false, eqb-true, eqb-false, ne-eqb, not-true, not-false}
 use Rattle.lists.specs.First.{foundIf, first, FirstFailing}
-use Rattle.lists.proofs.UptoLaws.{Sums, sums, sum-most}
+use Rattle.lists.proofs.UptoLaws.{both-false, Sums, sums, sum-most}
 use Rattle.lists.proofs.FirstLaws.{Tests, tests-one, tests-each}
 use Rattle.refusal.specs.Rules.{chain}
 use Rattle.refusal.specs.declared.Verdict.the-variants.{Passed}
@@ -22,16 +22,12 @@ use Rattle.diagram.specs.Rules.{outside, breaksRule, badDomain, badLayer
 
 -- ---- tests
 
-or-false : (a b : Bool) → (a || b) ≡ false → (a ≡ false) × (b ≡ false)
-or-false false b e = (refl, e)
-or-false true b e = (cc, cc)
-
 or-true : (a b : Bool) → (a || b) ≡ true → (a ≡ true) ⊎ (b ≡ true)
 or-true false b e = inr e
 or-true true b e = inl refl
 
 pub inside : (low high x : ℕ) → outside low high x ≡ false → Within low high x
-inside low high x e = let w = or-false (ltb x low) (ltb high x) e in (ltb-false x low (w .0), ltb-false high x (w .1))
+inside low high x e = let w = both-false (ltb x low) (ltb high x) e in (ltb-false x low (w .0), ltb-false high x (w .1))
 
 pub not-inside : (low high x : ℕ) → outside low high x ≡ true → Within low high x → ⊥
 not-inside low high x e h =
@@ -52,7 +48,7 @@ module _ (d : Lent) where
           let z = eqb-true v 0 q in
           record { root = λ _. eqb-true (layer d v) 1 (not-false (eqb (layer d v) 1) e); later = λ h. absurd (omega arith); rising = λ h. absurd (omega arith) }
       go false q e =
-          let w = or-false (outside 2 (options d) (layer d v)) (ltb (layer d v) (layer d (v - 1))) e in
+          let w = both-false (outside 2 (options d) (layer d v)) (ltb (layer d v) (layer d (v - 1))) e in
           record {
             root = λ z. absurd (eqb-false v 0 q z);
             later = λ h. inside 2 (options d) (layer d v) (w .0);

@@ -21,7 +21,7 @@ use Rattle.decimal.proofs.DigitsLaws.{all-digits, all-every, digits-decimal, va
 use Rattle.cnf.specs.Clause.{Clause, words}
 use Rattle.cnf.specs.Words.{zeros, NoZero, NoZeros}
 use Rattle.cnf.specs.Lent.{word}
-use Rattle.dimacs.specs.Text.{head, space, lineFeed, minus, literalText, wordText, body, headerLine, textOf}
+use Rattle.dimacs.specs.Text.{head, space, lineFeed, minus, literalText, wordText, body, headerLine, textOf, lineOf, linesOf, marks, TextByte}
 use Rattle.dimacs.specs.Tokens.{isGap, ended, tokens, hasMinus, unsigned, formed, wordOf, wordsOf}
 use Rattle.dimacs.specs.Rules.{tokenRules}
 use Rattle.dimacs.proofs.TokenLaws.{NoGap, tokens-gap, tokens-first, digits-no-gap, digits-no-minus}
@@ -101,15 +101,6 @@ body-passes v at (z ∷ zs) l g =
 
 -- ---- clause by clause
 
--- the line of a clause: each literal and a space, then `0` and a line feed
-unfoldable pub lineOf : Clause → List ℕ
-lineOf [] = 48 ∷ lineFeed ∷ []
-lineOf (l ∷ c) = literalText l ++ (space ∷ lineOf c)
-
-unfoldable pub linesOf : List Clause → List ℕ
-linesOf [] = []
-linesOf (c ∷ cs) = lineOf c ++ linesOf cs
-
 line-first : (c : Clause) (ws : List ℤ) → NoZero c → body (c ++ (pos 0 ∷ ws)) ≡ lineOf c ++ body ws
 unfolding lineOf after isZero literalText digits digitsWith
 line-first [] ws g = more-flat (pos 0) ws
@@ -126,13 +117,6 @@ one-line-a-clause (c ∷ cs) g =
     ∙ ap (λ (l : List ℕ). lineOf c ++ l) (one-line-a-clause cs (λ d m. g d (List·Memᴰ·tail m)))
 
 -- ---- its bytes
-
--- the bytes that are no digits: a space, a minus, a line feed, and the header's letters `p`, `c`, `n`, `f`
-abbrev pub marks : List ℕ
-marks = space ∷ minus ∷ lineFeed ∷ 112 ∷ 99 ∷ 110 ∷ 102 ∷ []
-
-abbrev pub TextByte : ℕ → Type 0
-TextByte b = (isDigit b ≡ true) ⊎ List·Memᴰ b marks
 
 mark : (k : ℕ) → k < 7 → TextByte (getD marks k 0)
 mark k h = inr (entry-in 0 marks k h)

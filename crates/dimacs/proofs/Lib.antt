@@ -7,5 +7,6 @@ pub mod BodyLaws
 pub mod HeaderLaws
 pub mod ReadTable
 pub mod WriteLaws
+pub mod WriterLaws
 pub mod ReadLaws
 pub mod RoundTrip

@@ -9,7 +9,7 @@ use lib.IntN.{ℤ}
 use lib.ListN.{length, take, drop}
 use borrow.Author.Tests.{eq-eqb, ne-eqb}
 use Rattle.lists.specs.Buffer.{over}
-use Rattle.lists.proofs.BufferLaws.{over-take, over-drop}
+use Rattle.lists.proofs.BufferLaws.{over-parts}
 use Rattle.refusal.specs.Rules.{Rule, refusal, chain}
 use Rattle.refusal.specs.Said.{Said, result, saying, leaving}
 use Rattle.refusal.specs.Table.{ExactlyWhen}
@@ -158,4 +158,4 @@ module _ (text : List ℕ) (before : List ℤ) where
         let w = read-exactly t .0 q in
         let n : t .words ≡ length (textWords text) = ap (λ (t : Tally). t .words) (w .1) in
         let b : after ≡ over (textWords text) before = tells .told-leaves (sym (table-chain text (length before)) ∙ w .0) in
-        rw (n, b) (over-take (textWords text) before, over-drop (textWords text) before)
+        over-parts (textWords text) before n b

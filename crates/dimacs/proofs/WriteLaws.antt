@@ -7,7 +7,7 @@ use native.Mathlib.Omega.{arith}
 use lib.IntN.{ℤ}
 use lib.ListN.{length, getD, take, drop}
 use Rattle.lists.specs.Buffer.{over}
-use Rattle.lists.proofs.BufferLaws.{over-take, over-drop}
+use Rattle.lists.proofs.BufferLaws.{over-parts}
 use Rattle.refusal.specs.Rules.{Rule, refusal, roomRule, chain}
 use Rattle.refusal.specs.Said.{Said, result}
 use Rattle.refusal.specs.Table.{roomRow, ExactlyWhen}
@@ -82,4 +82,4 @@ module _ (v : ℕ) (ws : List ℤ) where
       written-text n q =
           let w = written-exactly n .0 q in
           let b : after ≡ over (textOf v ws) before = tells .told-leaves (all-passed (length before) .1 (w .0, w .1)) in
-          rw (w .2, b) (over-take (textOf v ws) before, over-drop (textOf v ws) before)
+          over-parts (textOf v ws) before (w .2) b

@@ -1,12 +1,15 @@
 -- The clause text of a word list, as the writer writes it. Assumes nothing.
-use mathlib.Core.Bool.{cond}
-use mathlib.Core.List.{List, [], _∷_, _++_}
+use mathlib.Core.Path.{_≡_}
+use mathlib.Core.Logic.{_⊎_}
+use mathlib.Core.Bool.{true, cond}
+use mathlib.Core.List.{List, [], _∷_, _++_, List·Memᴰ}
 use Prim.Native.Nat.{ℕ, suc}
 use lib.IntN.{ℤ, pos, negsuc}
 use lib.ListN.{length}
 use Rattle.lists.specs.Upto.{upTo}
 use Rattle.lists.specs.Signed.{isZero}
-use Rattle.decimal.specs.Digits.{digits}
+use Rattle.decimal.specs.Digits.{isDigit, digits}
+use Rattle.cnf.specs.Clause.{Clause}
 use Rattle.cnf.specs.Words.{zeros}
 use Rattle.cnf.specs.Lent.{word}
 
@@ -43,3 +46,21 @@ headerLine v clauses = head ++ (digits v ++ (space ∷ (digits clauses ++ (lineF
 
 unfoldable pub textOf : ℕ → List ℤ → List ℕ
 textOf v ws = headerLine v (zeros ws) ++ body ws
+
+-- ---- the same, said of clauses; and its bytes
+
+-- the line of a clause: each literal and a space, then `0` and a line feed
+unfoldable pub lineOf : Clause → List ℕ
+lineOf [] = 48 ∷ lineFeed ∷ []
+lineOf (l ∷ c) = literalText l ++ (space ∷ lineOf c)
+
+unfoldable pub linesOf : List Clause → List ℕ
+linesOf [] = []
+linesOf (c ∷ cs) = lineOf c ++ linesOf cs
+
+-- the bytes that are no digits: a space, a minus, a line feed, and the header's letters `p`, `c`, `n`, `f`
+abbrev pub marks : List ℕ
+marks = space ∷ minus ∷ lineFeed ∷ 112 ∷ 99 ∷ 110 ∷ 102 ∷ []
+
+abbrev pub TextByte : ℕ → Type 0
+TextByte b = (isDigit b ≡ true) ⊎ List·Memᴰ b marks

@@ -1,9 +1,11 @@
 // Clause text: a word list written as DIMACS text, and such text read back. Assumes nothing.
 mod reader;
+mod writer;
 
 use cnf::Tally;
 pub use reader::read_text;
 use refusal::Refusal;
+pub use writer::write_text;
 
 pub enum TextWritten {
     Written(usize),

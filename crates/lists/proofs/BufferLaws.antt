@@ -7,7 +7,7 @@ use native.Mathlib.Nat.{add-zero, zero-add, add-suc, suc-add, le-add-right, le-o
 use native.Mathlib.Numerals.{add-one}
 use native.Mathlib.Omega.{arith}
 use lib.ListN.{length, getD, take, drop, set, length-append, length-drop, take-append-drop, drop-of-length-le}
-use lib.Seq.{sets, length-sets, sets-eq, set-comm, drop-set-add, take-set-le, take-all, drop-cons, append-snoc, set-append-seam, take-append-seam, drop-append-seam}
+use lib.Seq.{sets, length-sets, sets-eq, set-set, set-comm, drop-set-add, take-set-le, take-all, drop-cons, append-snoc, set-append-seam, take-append-seam, drop-append-seam}
 use borrow.Rule.Slice.PartMut.{midOf, postOf, putMid}
 use Rattle.lists.specs.Upto.{upTo}
 use Rattle.lists.specs.Buffer.{over, Wrote, Front}
@@ -32,6 +32,10 @@ module _ {A : Type 0} (xs buf : List A) where
   pub over-drop : drop (length xs) (over xs buf) ≡ drop (length xs) buf
   unfolding over
   over-drop = drop-append-seam xs (drop (length xs) buf)
+
+  -- its two parts, told by a count
+  pub over-parts : {n : ℕ} {after : List A} → n ≡ length xs → after ≡ over xs buf → (take n after ≡ xs) × (drop n after ≡ drop n buf)
+  over-parts e b = rw (e, b) (over-take, over-drop)
 
   -- as many as the buffer has: nothing is left of it
   pub over-all : length buf ≤ length xs → over xs buf ≡ xs
@@ -77,6 +81,11 @@ module _ {A : Type 0} where
 
   pub put : (l : List A) (at : ℕ) (a : A) → Wrote l at (a ∷ []) (set l at a) (at + 1)
   put l at a = record { list = refl; next = refl }
+
+  -- a word is written over at once: it is as if it had not been stored
+  pub put-over : {l l₁ : List A} {at : ℕ} (a : A) (ws : List A) {l′ : List A} {r : ℕ} → l₁ ≡ set l at a → 0 < length ws → Wrote l₁ at ws l′ r → Wrote l at ws l′ r
+  put-over a [] e h b = absurd (omega arith)
+  put-over {l} {at} a (w ∷ ws) e h b = record { list = b .list ∙ ap (λ (q : List A). sets q (suc at) ws) (ap (λ (q : List A). set q at w) e ∙ set-set l at a w); next = b .next }
 
 module _ {A : Type 0} {l l₁ xs : List A} {at r₁ : ℕ} (a : Wrote l at xs l₁ r₁) where
   -- the list keeps its length

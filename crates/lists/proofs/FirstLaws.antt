@@ -13,7 +13,7 @@ use Rattle.lists.specs.Upto.{sumTo, countTo, lastTo}
 use Rattle.lists.specs.First.{foundIf, orFound, first, sole, FirstFailing}
 use Rattle.lists.specs.declared.Found.{Found}
 use Rattle.lists.specs.declared.Found.the-variants.{Nothing, At}
-use Rattle.lists.proofs.UptoLaws.{last-or-below, below-or-not, decide, is-false, sum-more, sum-most, sum-room, sum-stretch, sum-same, last-is, up-to-last, is-last}
+use Rattle.lists.proofs.UptoLaws.{at-most-one, last-or-below, below-or-not, decide, is-false, sum-more, sum-most, sum-room, sum-stretch, sum-same, last-is, up-to-last, is-last}
 
 pub if-none : (b : Bool) (k : ℕ) → foundIf b k ≡ Nothing → b ≡ false
 if-none false k e = refl
@@ -120,22 +120,21 @@ module _ (bad : ℕ → Bool) where
   unfolding countTo sumTo
   count-start = refl
 
-  -- a loop that has counted c before n passes n, or counts it
-  pub count-pass : (n : ℕ) {c : ℕ} → c ≡ countTo n bad → bad n ≡ false → c ≡ countTo (n + 1) bad
+  -- a loop that has counted c before n adds 1 or 0
+  pub count-more : (n : ℕ) {c a : ℕ} → c ≡ countTo n bad → a ≡ cond (bad n) 1 0 → c + a ≡ countTo (n + 1) bad
   unfolding countTo
-  count-pass n h e = h ∙ sym (sum-more (λ k. cond (bad k) 1 0) n ∙ rw e (omega arith))
+  count-more n h e = omega (arith, sum-more (λ k. cond (bad k) 1 0) n)
+
+  -- or it passes n, or counts it
+  pub count-pass : (n : ℕ) {c : ℕ} → c ≡ countTo n bad → bad n ≡ false → c ≡ countTo (n + 1) bad
+  count-pass n {c} h e = omega (arith, count-more n {a = 0} h (rw e))
 
   pub count-found : (n : ℕ) {c : ℕ} → c ≡ countTo n bad → bad n ≡ true → c + 1 ≡ countTo (n + 1) bad
-  unfolding countTo
-  count-found n h e = ap (λ (k : ℕ). k + 1) h ∙ sym (sum-more (λ k. cond (bad k) 1 0) n ∙ rw e)
+  count-found n h e = count-more n h (rw e)
 
   pub count-most : (n : ℕ) → countTo n bad ≤ n
   unfolding countTo
-  count-most n = omega (arith, sum-most (λ k. cond (bad k) 1 0) 1 n (λ k h. one (bad k)))
-    where
-      one : (b : Bool) → cond b 1 0 ≤ 1
-      one true = omega arith
-      one false = omega arith
+  count-most n = omega (arith, sum-most (λ k. cond (bad k) 1 0) 1 n (λ k h. at-most-one (bad k)))
 
   pub count-none : (n : ℕ) → countTo n bad ≡ 0 → first bad n ≡ Nothing
   unfolding countTo sumTo first

@@ -1,6 +1,7 @@
 -- Laws of signed words of 32 bits: a number below 2 ^ 31 as such a word, its negation, and what the tests and the
 -- magnitude of a word are in code. Assumes nothing.
 use mathlib.Core.Path.{_≡_, refl, sym, ap, _∙_, subst}
+use mathlib.Core.Logic.{_⊎_, inl, inr}
 use mathlib.Core.Bool.{true, false}
 use Prim.Native.Nat.{ℕ, zero, suc, _-_, _<_, _≤_, _^_}
 use native.Mathlib.Nat.{zero-add}
@@ -11,8 +12,9 @@ use lib.Signed.{ltZ, nonNeg}
 use mir.Syntax.{w32}
 use mir.Val.{SFits, Fits, ofZ, toZ}
 use mir.ValLaws.{toZ-pos, toZ-ofZ}
-use borrow.Author.Tests.{le-ltb, lt-ltb, ne-eqb}
+use borrow.Author.Tests.{le-ltb, lt-ltb, ltb-true, ltb-false, ne-eqb}
 use Rattle.lists.specs.Signed.{isZero, isNegative, beyond}
+use Rattle.lists.proofs.UptoLaws.{decide}
 
 -- ---- a number below 2 ^ 31 as a word, and its negation
 
@@ -128,3 +130,17 @@ beyond-above v z p q h = sym (above v z (rw (p, q) at h))
 
 pub beyond-below : (v : ℕ) (z : ℤ) {t y m : ℤ} → t ≡ pos v → y ≡ z → m ≡ negℤ (pos v) → ltZ t y ≡ false → ltZ y m ≡ beyond v z
 beyond-below v z p q r h = rw (q, r) (below v z (rw (p, q) at h))
+
+-- ---- below -v, alone: y is the word, m the negation of v
+
+pub far-below : (v : ℕ) (z : ℤ) {y m : ℤ} → y ≡ z → m ≡ negℤ (pos v) → ltZ y m ≡ true → v < natAbs z
+far-below v z q r h = go (decide (ltZ (pos v) z))
+  where
+    go : (ltZ (pos v) z ≡ true) ⊎ (ltZ (pos v) z ≡ false) → v < natAbs z
+    go (inl a) = ltb-true v (natAbs z) (above v z a)
+    go (inr a) = ltb-true v (natAbs z) (sym (below v z a) ∙ (rw (q, r) at h))
+
+pub near-below : (v : ℕ) (z : ℤ) {y m : ℤ} → y ≡ z → m ≡ negℤ (pos v) → isNegative z ≡ true → ltZ y m ≡ false → natAbs z ≤ v
+unfolding isNegative
+near-below v (pos n) q r e h = let w : _≡_ {A = ℕ} 0 1 = cc in absurd (omega arith)
+near-below v (negsuc n) q r e h = ltb-false v (suc n) (sym (below v (negsuc n) refl) ∙ (rw (q, r) at h))

@@ -28,6 +28,11 @@ pub is-false : (b : Bool) → (b ≡ true → ⊥) → b ≡ false
 is-false true h = absurd (h refl)
 is-false false h = refl
 
+-- 1 or 0, as a test says
+pub at-most-one : (b : Bool) → cond b 1 0 ≤ 1
+at-most-one true = omega arith
+at-most-one false = omega arith
+
 -- where one or the other is not true, neither is
 pub both-false : (a b : Bool) → (a || b) ≡ false → (a ≡ false) × (b ≡ false)
 both-false false b e = (refl, e)

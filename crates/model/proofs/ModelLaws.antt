@@ -11,7 +11,7 @@ use borrow.Author.Tests.{eqb-true, eqb-false, not-true, not-false}
 use Rattle.lists.specs.First.{foundIf}
 use Rattle.lists.specs.Buffer.{over}
 use Rattle.lists.proofs.FirstLaws.{Tests, tests-one}
-use Rattle.lists.proofs.BufferLaws.{over-take, over-drop}
+use Rattle.lists.proofs.BufferLaws.{over-parts}
 use Rattle.refusal.specs.Rules.{Rule, chain}
 use Rattle.refusal.specs.Said.{Said, result}
 use Rattle.refusal.specs.Table.{roomRow, ExactlyWhen}
@@ -146,4 +146,4 @@ module _ (d : Lent) (m : List ℤ) where
           let s : buildOf d m ≡ build = one-build d m (buildOf d m) build (build-said d m (w .1 .1 .well-named .named-first) (each-one build b)) b in
           let a : after ≡ over build before = tells .told-leaves (all-passed (length before) .1 (w .0, w .1)) ∙ ap (λ (l : List ℕ). over l before) s in
           let c : n ≡ length build = w .2 ∙ sym (b .whole) in
-          rw (c, a) (over-take build before, over-drop build before)
+          over-parts build before c a

@@ -9,7 +9,6 @@ use refusal::Verdict;
 ghost use mathlib.Core.Path.{_≡_};
 ghost use mathlib.Core.List.{[]};
 ghost use Prim.Native.Nat.{ℕ, _+_, _≤_, _<_};
-ghost use lib.IntN.{natAbs};
 ghost use lib.ListN.{length, replicate};
 ghost use Rattle.lists.specs.Upto.{countTo};
 ghost use Rattle.lists.specs.First.{first, sole};
@@ -103,18 +102,6 @@ fn first_bad_literal(literals: &[i32], last: u32) -> Found
 
 // ---- number 11
 
-// The variable that a literal names, once its range is known.
-fn variable_of(literal: i32) -> u32
-    requires { ⌜ natAbs literal ≤ 2147483647 ⌝ }
-    ensures { λ r. ⌜ r ≡ natAbs literal ⌝ }
-{
-    if literal < 0 {
-        -literal as u32
-    } else {
-        literal as u32
-    }
-}
-
 fn mark_of(literal: i32) -> u8
     ensures { λ r. ⌜ r ≡ markOf literal ⌝ }
 {
@@ -157,7 +144,7 @@ fn first_again(literals: &[i32], values: usize, marks: &mut [u8; VALUES]) -> Fou
         if note(
             marks,
             values,
-            variable_of(literal) as usize,
+            cnf::variable_of(literal) as usize,
             mark_of(literal),
         ) {
             return Found::At(k);

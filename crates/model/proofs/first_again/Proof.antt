@@ -67,7 +67,7 @@ first-again-spec =
     (λ c. (omega arith, start _, c .pre .1))
     (λ c. search needs)
     (λ c. search needs)
-    (λ c κs. rw (back (c .before)) (ranged (c .before .before) .1))
+    (λ c κs. search needs)
     (λ c. omega (arith, named c, ranged (c .before .before .before)))
     (λ c κs. search needs)
     (λ c κs. let l = c .before .before .before .before in (l .before .before .pre .0 .0, omega (arith, named (c .before), ranged l), l .before .loop .inv .2 .whole))

@@ -1,0 +1,103 @@
+-- The clause text of a diagram's list, as demand 2 says: for any edition whose counts keep the limits of clause text, and so
+-- for edition 1. Assumes nothing.
+use mathlib.Core.Path.{_≡_, refl, sym, _∙_, ap, subst}
+use mathlib.Core.Logic.{_⊎_, inl, inr}
+use mathlib.Core.List.{List, [], _∷_, _++_, List·Memᴰ}
+use Prim.Native.Nat.{ℕ, _≤_, _<_, _^_}
+use native.Mathlib.Omega.{arith}
+use lib.IntN.{ℤ, pos, natAbs}
+use lib.ListN.{length, getD, take, drop}
+use Rattle.lists.specs.Every.{Every}
+use Rattle.lists.specs.Buffer.{over}
+use Rattle.lists.proofs.EveryLaws.{entry-in}
+use Rattle.lists.proofs.BufferLaws.{over-parts}
+use Rattle.diagram.specs.Lent.{Lent}
+use Rattle.diagram.specs.Sound.{Sound, Within}
+use Rattle.cnf.specs.Clause.{Clause, words}
+use Rattle.cnf.specs.Words.{zeros, NoZeros}
+use Rattle.cnf.specs.Encoded.{tallyOf, tally-same}
+use Rattle.cnf.specs.Lent.{LimitsKept, word}
+use Rattle.cnf.specs.declared.Tally.{Tally}
+use Rattle.cnf.specs.declared.Encoded.the-variants.{Written}
+use Rattle.cnf.specs.declared.EncodeAnswer.{EncodeAnswer}
+use Rattle.cnf.proofs.WordsLaws.{clauses-no-zero}
+use Rattle.cnf.proofs.LentLaws.{WellWords}
+use Rattle.cnf.proofs.EncodedLaws.{written-exactly, written-list}
+use Rattle.clauses.specs.Clauses.{Edition, edition1, lastVariable, clauses}
+use Rattle.clauses.proofs.Edition1.{edition1-own}
+use Rattle.encoder.specs.Promise.{encodeRules, EncodePromise}
+use Rattle.dimacs.specs.Text.{body, headerLine, textOf, linesOf, TextByte}
+use Rattle.dimacs.specs.Write.{WritePromise}
+use Rattle.dimacs.specs.Read.{tallyRead, ReadPromise}
+use Rattle.dimacs.specs.declared.WriteAnswer.{WriteAnswer}
+use Rattle.dimacs.specs.declared.TextWritten.the-variants as text
+use Rattle.dimacs.specs.declared.ReadAnswer.{ReadAnswer}
+use Rattle.dimacs.specs.declared.TextRead.the-variants.{Read}
+use Rattle.dimacs.proofs.BodyLaws.{one-line-a-clause, text-bytes}
+use Rattle.dimacs.proofs.WriteLaws.{written-exactly as text-written}
+use Rattle.dimacs.proofs.RoundTrip.{gives-back}
+use Rattle.demands.specs.Demand2.{WellFormed, TextRoundTrip}
+use Rattle.demands.proofs.Demand2.{well-formed, maxima}
+
+module _ (e : Edition) (d : Lent) (f : WellFormed e d) (limits : LimitsKept (lastVariable e d) (words (clauses e d))) where
+  abbrev ws : List ℤ
+  ws = words (clauses e d)
+
+  abbrev v : ℕ
+  v = lastVariable e d
+
+  -- every word is in range
+  in-range : (w : ℤ) → List·Memᴰ w ws → natAbs w ≤ v
+  in-range w m = go (f .each-word w m)
+    where
+      go : (w ≡ pos 0) ⊎ Within 1 v (natAbs w) → natAbs w ≤ v
+      go (inl q) = rw q (omega arith)
+      go (inr q) = q .1
+
+  well-words : WellWords v ws
+  well-words = record { limits = limits; in-range = λ k h. in-range (word ws k) (entry-in (pos 0) ws k h); ends = f .all-closed }
+
+  no-zeros : NoZeros (clauses e d)
+  no-zeros = subst NoZeros (f .told-back) (clauses-no-zero ws)
+
+  -- what `encode` has written: the list's own words and counts
+  module _ (before after : List ℤ) (encoded : EncodeAnswer) (t : Tally) (p : EncodePromise e d before encoded after) (q : encoded .outcome ≡ Written t) where
+    own : t ≡ tallyOf (clauses e d) v
+    own = written-exactly (clauses e d) v before (encodeRules e d (length before)) encoded after p t .0 q .1
+
+    its-words : take (t .words) after ≡ ws
+    its-words = written-list (clauses e d) v before (encodeRules e d (length before)) encoded after p t q .0
+
+    its-last : t .variables ≡ v
+    its-last = ap (λ (t : Tally). t .variables) own
+
+    is-well : WellWords (t .variables) (take (t .words) after)
+    is-well = rw (its-words, its-last) well-words
+
+    -- as it is counted when it comes back
+    counted : tallyRead (take (t .words) after) (t .variables) ≡ t
+    counted = tally-same _ _ _ _ _ _ (ap length its-words) (ap zeros its-words ∙ f .one-zero-each) its-last ∙ sym own
+
+    many : length (take (t .words) after) ≡ t .words
+    many = ap (λ (t : Tally). t .words) counted
+
+  pub round-trip : TextRoundTrip e d
+  unfolding textOf
+  round-trip =
+      record {
+        the-text = ap (λ (k : ℕ). headerLine v k ++ body ws) (f .one-zero-each) ∙ ap (λ (l : List ℕ). headerLine v (length (clauses e d)) ++ l) (one-line-a-clause (clauses e d) no-zeros);
+        its-bytes = text-bytes v ws (omega (arith, limits .counts .variables)) (omega (arith, limits .counts .clause-count)) (λ w m. omega (arith, in-range w m, limits .counts .variables));
+        accepted = λ before after encoded t p q page page′ answer j h. text-written (t .variables) (take (t .words) after) page answer page′ j _ .1 (is-well before after encoded t p q, h, refl);
+        given-back = λ before after encoded t p q page page′ answer n j k lent list read r h.
+            let m = many before after encoded t p q in
+            let w = gives-back (t .variables) (take (t .words) after) page page′ answer n j k lent list read r (omega (arith, m, h)) in
+            let o = over-parts (take (t .words) after) lent (sym m) (w .1) in
+            (w .0 ∙ ap Read (counted before after encoded t p q), o .0, o .1);
+      }
+
+-- in edition 1, by the maxima
+pub edition1-round-trip : (d : Lent) → Sound d → TextRoundTrip edition1 d
+edition1-round-trip d s =
+    let f = well-formed edition1 edition1-own d s in
+    let m = maxima d s in
+    round-trip edition1 d f (record { counts = record { variables = omega (arith, m .few-variables); clause-count = omega (arith, m .few-clauses, f .one-zero-each) }; words = omega (arith, m .few-words) })
