@@ -4,11 +4,11 @@ use mathlib.Core.Path.{_≡_}
 use mathlib.Core.Bool.{Bool, true, not, cond, _||_}
 use mathlib.Core.List.{List, [], _∷_}
 use Prim.Native.Nat.{ℕ, _≤_}
-use lib.Dec.{ltb, eqb}
+use lib.Dec.{ltb}
 use lib.IntN.{ℤ, pos, natAbs}
 use lib.ListN.{length, getD}
 use Rattle.lists.specs.First.{foundIf, first, FirstFailing}
-use Rattle.lists.specs.Signed.{isZero, beyond}
+use Rattle.lists.specs.Signed.{beyond}
 use Rattle.lists.specs.declared.Found.the-variants.{Nothing}
 use Rattle.refusal.specs.Rules.{Rule, rule}
 use Rattle.refusal.specs.Table.{Row, row}

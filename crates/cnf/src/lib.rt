@@ -9,7 +9,7 @@ ghost use mathlib.Core.Bool.{not, cond};
 ghost use lib.IntN.{natAbs};
 ghost use lib.ListN.{length};
 ghost use Rattle.lists.specs.First.{foundIf, first};
-ghost use Rattle.lists.specs.Signed.{isZero, beyond};
+ghost use Rattle.lists.specs.Signed.{beyond};
 ghost use Rattle.refusal.specs.Rules.{chain};
 ghost use Rattle.cnf.specs.Words.{closed};
 ghost use Rattle.cnf.specs.Lent.{beyondAt, tooMany, literalRules, countedRules};

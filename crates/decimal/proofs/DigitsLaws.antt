@@ -1,16 +1,15 @@
 -- Laws of the decimal of a number: its digits step by step, how many they are, and that it is a decimal which says the number.
 -- Assumes nothing.
 use mathlib.Core.Path.{_≡_, refl, sym, ap, _∙_}
-use mathlib.Core.Logic.{⊎-elim}
 use mathlib.Core.Bool.{Bool, true, false, not, _&&_, and-eq-true-iff}
-use mathlib.Core.List.{List, [], _∷_, _++_, append-assoc}
+use mathlib.Core.List.{List, [], _∷_, _++_}
 use Prim.Native.Nat.{ℕ, zero, suc, _+_, _-_, _*_, _/_, _%_, _^_, _≤_, _<_}
 use native.Mathlib.Nat.{pow-suc}
 use native.Mathlib.Omega.{arith}
 use native.Mathlib.Decide.{decLt}
-use lib.Dec.{leb, ltb, eqb}
+use lib.Dec.{leb, eqb}
 use lib.ListN.{length, length-append, getD, List·getD-append}
-use borrow.Author.Tests.{lt-ltb, le-ltb, le-leb, lt-leb, ne-eqb, leb-true}
+use borrow.Author.Tests.{lt-ltb, le-ltb, le-leb, ne-eqb, leb-true}
 use Rattle.lists.specs.Every.{Every}
 use Rattle.lists.proofs.EveryLaws.{every-none, every-more}
 use Rattle.decimal.specs.Digits.{isDigit, allDigits, plain, isDecimal, valueFrom, value, digitsWith, digits}

@@ -1,7 +1,7 @@
 // Reading a decimal at a place of a text. Assumes nothing.
 use crate::Reading;
 ghost use mathlib.Core.Path.{_≡_};
-ghost use Prim.Native.Nat.{ℕ, _+_, _-_, _*_, _≤_, _<_};
+ghost use Prim.Native.Nat.{_+_, _-_, _*_, _≤_, _<_};
 ghost use lib.ListN.{length};
 ghost use Rattle.decimal.specs.Digits.{isDigit};
 ghost use Rattle.decimal.specs.Reading.{cut, readingAt, leadsAt, positiveAt};

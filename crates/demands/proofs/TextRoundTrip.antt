@@ -2,18 +2,16 @@
 -- for edition 1. Assumes nothing.
 use mathlib.Core.Path.{_≡_, refl, sym, _∙_, ap, subst}
 use mathlib.Core.Logic.{_⊎_, inl, inr}
-use mathlib.Core.List.{List, [], _∷_, _++_, List·Memᴰ}
-use Prim.Native.Nat.{ℕ, _≤_, _<_, _^_}
+use mathlib.Core.List.{List, _++_, List·Memᴰ}
+use Prim.Native.Nat.{ℕ, _≤_}
 use native.Mathlib.Omega.{arith}
 use lib.IntN.{ℤ, pos, natAbs}
-use lib.ListN.{length, getD, take, drop}
-use Rattle.lists.specs.Every.{Every}
-use Rattle.lists.specs.Buffer.{over}
+use lib.ListN.{length, take}
 use Rattle.lists.proofs.EveryLaws.{entry-in}
 use Rattle.lists.proofs.BufferLaws.{over-parts}
 use Rattle.diagram.specs.Lent.{Lent}
 use Rattle.diagram.specs.Sound.{Sound, Within}
-use Rattle.cnf.specs.Clause.{Clause, words}
+use Rattle.cnf.specs.Clause.{words}
 use Rattle.cnf.specs.Words.{zeros, NoZeros}
 use Rattle.cnf.specs.Encoded.{tallyOf, tally-same}
 use Rattle.cnf.specs.Lent.{LimitsKept, word}
@@ -26,12 +24,9 @@ use Rattle.cnf.proofs.EncodedLaws.{written-exactly, written-list}
 use Rattle.clauses.specs.Clauses.{Edition, edition1, lastVariable, clauses}
 use Rattle.clauses.proofs.Edition1.{edition1-own}
 use Rattle.encoder.specs.Promise.{encodeRules, EncodePromise}
-use Rattle.dimacs.specs.Text.{body, headerLine, textOf, linesOf, TextByte}
-use Rattle.dimacs.specs.Write.{WritePromise}
-use Rattle.dimacs.specs.Read.{tallyRead, ReadPromise}
-use Rattle.dimacs.specs.declared.WriteAnswer.{WriteAnswer}
+use Rattle.dimacs.specs.Text.{body, headerLine, textOf}
+use Rattle.dimacs.specs.Read.{tallyRead}
 use Rattle.dimacs.specs.declared.TextWritten.the-variants as text
-use Rattle.dimacs.specs.declared.ReadAnswer.{ReadAnswer}
 use Rattle.dimacs.specs.declared.TextRead.the-variants.{Read}
 use Rattle.dimacs.proofs.BodyLaws.{one-line-a-clause, text-bytes}
 use Rattle.dimacs.proofs.WriteLaws.{written-exactly as text-written}

@@ -1,9 +1,9 @@
 -- Laws of the text that the writer writes: word by word, clause by clause, its bytes, and its tokens, which say the words.
 -- Assumes nothing.
 use mathlib.Core.Path.{_≡_, refl, sym, ap, _∙_}
-use mathlib.Core.Logic.{_⊎_, inl, inr}
+use mathlib.Core.Logic.{inl, inr}
 use mathlib.Core.Bool.{Bool, true, false, cond}
-use mathlib.Core.List.{List, [], _∷_, _++_, append-assoc, List·Memᴰ, List·Memᴰ·head, List·Memᴰ·tail}
+use mathlib.Core.List.{List, [], _∷_, _++_, append-assoc, List·Memᴰ·head, List·Memᴰ·tail}
 use Prim.Native.Nat.{ℕ, suc, _+_, _^_, _≤_, _<_}
 use native.Mathlib.Omega.{arith}
 use lib.IntN.{ℤ, pos, negsuc, natAbs}
@@ -16,12 +16,12 @@ use Rattle.lists.proofs.UptoLaws.{list-none, list-front}
 use Rattle.lists.proofs.EveryLaws.{every-none, every-more, every-both, each-every, entry-in}
 use Rattle.refusal.specs.Rules.{chain}
 use Rattle.refusal.specs.declared.Verdict.the-variants.{Passed}
-use Rattle.decimal.specs.Digits.{isDigit, digits, digitsWith}
-use Rattle.decimal.proofs.DigitsLaws.{all-digits, all-every, digits-decimal, value-digits, length-pos}
+use Rattle.decimal.specs.Digits.{digits}
+use Rattle.decimal.proofs.DigitsLaws.{digits-small, all-digits, all-every, digits-decimal, value-digits, length-pos}
 use Rattle.cnf.specs.Clause.{Clause, words}
 use Rattle.cnf.specs.Words.{zeros, NoZero, NoZeros}
 use Rattle.cnf.specs.Lent.{word}
-use Rattle.dimacs.specs.Text.{head, space, lineFeed, minus, literalText, wordText, body, headerLine, textOf, lineOf, linesOf, marks, TextByte}
+use Rattle.dimacs.specs.Text.{head, space, lineFeed, literalText, wordText, body, headerLine, textOf, lineOf, linesOf, marks, TextByte}
 use Rattle.dimacs.specs.Tokens.{isGap, ended, tokens, hasMinus, unsigned, formed, wordOf, wordsOf}
 use Rattle.dimacs.specs.Rules.{tokenRules}
 use Rattle.dimacs.proofs.TokenLaws.{NoGap, tokens-gap, tokens-first, digits-no-gap, digits-no-minus}
@@ -45,6 +45,11 @@ unfolding wordText after
 more-flat z zs = body-more z zs ∙ append-snoc (literalText z) (cond (isZero z) lineFeed space) (body zs)
 
 -- ---- a word's text: a well-formed token that says the word
+
+-- the word 0 is `0`
+pub nought : literalText (pos 0) ≡ 48 ∷ []
+unfolding literalText
+nought = digits-small 0 (omega arith)
 
 pub literal-formed : (z : ℤ) → natAbs z < 10 ^ 20 → formed (literalText z) ≡ true
 unfolding formed unsigned hasMinus literalText
@@ -102,8 +107,8 @@ body-passes v at (z ∷ zs) l g =
 -- ---- clause by clause
 
 line-first : (c : Clause) (ws : List ℤ) → NoZero c → body (c ++ (pos 0 ∷ ws)) ≡ lineOf c ++ body ws
-unfolding lineOf after isZero literalText digits digitsWith
-line-first [] ws g = more-flat (pos 0) ws
+unfolding lineOf after isZero
+line-first [] ws g = more-flat (pos 0) ws ∙ ap (λ (l : List ℕ). l ++ (lineFeed ∷ body ws)) nought
 line-first (l ∷ c) ws g =
     more-flat l (c ++ (pos 0 ∷ ws))
     ∙ rw (g l (List·Memᴰ·head refl), line-first c ws (λ m t. g m (List·Memᴰ·tail t))) (sym (append-assoc (literalText l) (space ∷ lineOf c) (body ws)))

@@ -2,24 +2,24 @@
 use mathlib.Core.Path.{_≡_, refl, sym, ap, _∙_}
 use mathlib.Core.Logic.{_⊎_, inl, inr}
 use mathlib.Core.Bool.{Bool, true, false, not, _&&_, and-true, and-eq-true-iff, false≢true}
-use mathlib.Core.List.{List, [], _∷_}
+use mathlib.Core.List.{List}
 use Prim.Native.Nat.{ℕ, _+_, _≤_, _<_}
 use native.Mathlib.Omega.{arith}
 use lib.Dec.{ltb, eqb}
-use lib.IntN.{natAbs}
+use lib.IntN.{pos}
 use lib.ListN.{length, getD, drop}
 use borrow.Author.Tests.{not-true, eq-eqb, ne-eqb, lt-ltb, le-ltb, ltb-false}
 use Rattle.lists.specs.Signed.{isZero, beyond}
 use Rattle.lists.proofs.UptoLaws.{decide}
-use Rattle.decimal.specs.Digits.{isDigit, allDigits, plain, isDecimal, valueFrom, value}
 use Rattle.decimal.specs.Reading.{readingAt, positiveAt}
 use Rattle.decimal.specs.declared.Reading.{Reading}
 use Rattle.decimal.proofs.PositiveLaws.{positive-good, positive-is, positive-plain}
 use Rattle.cnf.specs.Clause.{says}
-use Rattle.dimacs.specs.Tokens.{isGap, lead, ended, hasMinus, unsigned, formed, wordOf}
-use Rattle.dimacs.specs.Passes.{Good, TokenJudged, DigitsJudged}
+use Rattle.dimacs.specs.Tokens.{isGap, lead, ended, formed, wordOf, Good}
+use Rattle.dimacs.specs.Passes.{TokenJudged, DigitsJudged}
 use Rattle.dimacs.specs.declared.reader.Judged.{Judged}
 use Rattle.dimacs.specs.declared.reader.Judged.the-variants.{Misformed, Beyond, Zero, Literal}
+use Rattle.dimacs.proofs.BodyLaws.{nought, literal-formed, literal-says}
 use Rattle.dimacs.proofs.TokenLaws.{nought-token, TokenAt, formed-as, formed-ends, formed-value, formed-beyond, formed-zero}
 
 -- ---- by a number other than 0
@@ -71,7 +71,7 @@ module _ {text : List ℕ} {i : ℕ} {m : Bool} {from : ℕ} (k : TokenAt text i
   digits-judged v h (Zero end) d = absurd d
   digits-judged v h (Literal end) d =
       let f = is-formed (d .0) in (
-        record { is-formed = f; in-range = range (d .0) v h ∙ d .1 },
+        record { is-formed = f; in-range = ltb-false v _ (range (d .0) v h ∙ d .1) },
         formed-zero k f ∙ not-zero (d .0),
         d .2 ∙ ap (λ (x : Reading). x .end) (same (d .0)) ∙ sym (formed-ends k f),
       )
@@ -113,15 +113,12 @@ module _ (text : List ℕ) (i : ℕ) (inside : i < length text) (begins : isGap 
         pub plain-word : (v : ℕ) → v < 10000000000 → readingAt text i .value ≤ v → (z : Bool) → eqb (readingAt text i .value) 0 ≡ z
             → Good v (lead (drop i text)) × (isZero (wordOf (lead (drop i text))) ≡ z) × (readingAt text i .end ≡ i + length (lead (drop i text)))
         plain-word v h l z q = (
-          record { is-formed = plain-good; in-range = formed-beyond (plain-token e) plain-good v h ∙ le-ltb v (readingAt text i .value) l },
+          record { is-formed = plain-good; in-range = ltb-false v _ (formed-beyond (plain-token e) plain-good v h ∙ le-ltb v (readingAt text i .value) l) },
           formed-zero (plain-token e) plain-good ∙ q,
           sym (formed-ends (plain-token e) plain-good),
         )
 
 -- ---- the word of a token that is known to be good
-
-pub good-range : (v : ℕ) (t : List ℕ) → Good v t → natAbs (wordOf t) ≤ v
-good-range v t g = ltb-false v (natAbs (wordOf t)) (g .in-range)
 
 pub record WordRead (text : List ℕ) (i : ℕ) (m : Bool) (r : Reading) : Type 0 where
   pub small : r .value ≤ 1000000
@@ -130,7 +127,7 @@ pub record WordRead (text : List ℕ) (i : ℕ) (m : Bool) (r : Reading) : Type 
 
 word-read : {text : List ℕ} {i : ℕ} {m : Bool} {from : ℕ} {r : Reading} → TokenAt text i m from r → Good 1000000 (lead (drop i text)) → WordRead text i m r
 word-read {r = r} k g =
-    let l = ltb-false 1000000 (r .value) (sym (formed-beyond k (g .is-formed) 1000000 (omega arith)) ∙ g .in-range) in
+    let l = ltb-false 1000000 (r .value) (sym (formed-beyond k (g .is-formed) 1000000 (omega arith)) ∙ le-ltb 1000000 _ (g .in-range)) in
     record { small = l; says-word = formed-value k (g .is-formed) (omega arith); ends-word = sym (formed-ends k (g .is-formed)) }
 
 module _ (text : List ℕ) (i : ℕ) (inside : i < length text) (begins : isGap (getD text i 0) ≡ false) (g : Good 1000000 (lead (drop i text))) where
@@ -143,7 +140,9 @@ module _ (text : List ℕ) (i : ℕ) (inside : i < length text) (begins : isGap 
 -- ---- `0` alone
 
 pub nought-judged : (text : List ℕ) (i v : ℕ) → i < length text → getD text i 0 ≡ 48 → ended (drop (i + 1) text) ≡ true → TokenJudged v text i (Zero (i + 1))
-unfolding formed isDecimal allDigits plain isDigit hasMinus unsigned value valueFrom wordOf isZero
+unfolding isZero
 nought-judged text i v h z e =
     let t = nought-token text i h z e in
-    (record { is-formed = rw t; in-range = rw t (le-ltb v 0 (omega arith)) }, rw t, rw t)
+    let l = t ∙ sym nought in
+    let w : wordOf (lead (drop i text)) ≡ pos 0 = ap wordOf l ∙ literal-says (pos 0) (omega arith) in
+    (record { is-formed = ap formed l ∙ literal-formed (pos 0) (omega arith); in-range = rw w (omega arith) }, rw w, rw t)

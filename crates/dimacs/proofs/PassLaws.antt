@@ -2,29 +2,27 @@
 use mathlib.Core.Path.{_≡_, refl, sym, ap, _∙_}
 use mathlib.Core.Logic.{_⊎_, inl, inr}
 use mathlib.Core.Bool.{Bool, true, false, cond}
-use mathlib.Core.List.{List, [], _∷_, _++_, append-assoc, append-nil}
+use mathlib.Core.List.{List, [], _∷_, _++_, append-assoc, append-nil, List·Memᴰ·head}
 use Prim.Native.Nat.{ℕ, suc, _+_, _≤_, _<_}
 use native.Mathlib.Nat.{add-zero}
 use native.Mathlib.Omega.{arith}
-use lib.IntN.{ℤ}
+use lib.IntN.{ℤ, natAbs}
 use lib.ListN.{length, length-append, getD, drop, set}
-use borrow.Author.Tests.{not-false}
+use borrow.Author.Tests.{le-ltb}
 use Rattle.lists.specs.Signed.{isZero, beyond}
 use Rattle.lists.specs.Buffer.{Wrote}
 use Rattle.lists.proofs.UptoLaws.{below-or-not}
-use Rattle.lists.proofs.FirstLaws.{if-none}
 use Rattle.lists.proofs.BufferLaws.{none, put, then, wrote-as}
-use Rattle.refusal.specs.Rules.{Rule, rule, refusal, chain}
-use Rattle.refusal.specs.declared.Refusal.{Refusal}
-use Rattle.refusal.specs.declared.Verdict.{Verdict}
+use Rattle.refusal.specs.Rules.{refusal, chain}
 use Rattle.refusal.specs.declared.Verdict.the-variants.{Passed, Refused}
-use Rattle.refusal.proofs.RulesLaws.{passes, not-due}
+use Rattle.refusal.proofs.RulesLaws.{passes}
 use Rattle.cnf.specs.Words.{zeros, closed}
 use Rattle.cnf.proofs.WordsLaws.{zeros-append, closed-append}
-use Rattle.dimacs.specs.Tokens.{isGap, lead, Token, formed, wordOf, wordsOf}
+use Rattle.dimacs.specs.Tokens.{isGap, lead, Token, formed, wordOf, Good, wordsOf}
 use Rattle.dimacs.specs.Rules.{tokenRules, tokensFrom}
-use Rattle.dimacs.specs.Passes.{Good, PassedOver}
+use Rattle.dimacs.specs.Passes.{PassedOver}
 use Rattle.dimacs.specs.declared.reader.Pass.the-variants.{Counted}
+use Rattle.dimacs.proofs.ReadTable.{tokens-good}
 use Rattle.dimacs.proofs.TokenLaws.{gap-at, token-at, none-at, past-token}
 
 -- ---- one list of tokens after the other
@@ -64,13 +62,7 @@ module _ (v : ℕ) (t : Token) (ts : List Token) where
 
   good-first : Good v (t .bytes) → chain (tokenRules v (t ∷ ts)) ≡ chain (tokenRules v ts)
   unfolding tokenRules chain
-  good-first g = rw (g .is-formed, g .in-range)
-
-  first-good : chain (tokenRules v (t ∷ ts)) ≡ Passed → Good v (t .bytes)
-  unfolding tokenRules
-  first-good p =
-      let a = not-due 18 _ _ p in
-      record { is-formed = not-false _ (if-none _ _ (a .0)); in-range = if-none _ _ (not-due 14 _ _ (a .1) .0) }
+  good-first g = rw (g .is-formed, le-ltb v (natAbs (wordOf (t .bytes))) (g .in-range))
 
 -- ---- up to a place
 
@@ -210,7 +202,7 @@ module _ (v : ℕ) (text : List ℕ) (from : ℕ) (lent : List ℤ) where
 
     module _ (h : i < length text) (g : isGap (getD text i 0) ≡ false) where
       pub filling-good : chain (tokenRules v (tokensFrom text from)) ≡ Passed → Good v (lead (drop i text))
-      filling-good p = first-good v _ _ (sym (ahead v text from i (f .over) h g) ∙ p)
+      filling-good p = tokens-good v _ (sym (ahead v text from i (f .over) h g) ∙ p) _ (List·Memᴰ·head refl)
 
       pub filling-more : Good v (lead (drop i text)) → (w : ℤ) → w ≡ wordOf (lead (drop i text)) → (e : ℕ) → e ≡ i + length (lead (drop i text)) → Filling v text from lent (e + 1) (k + 1) (set list k w)
       unfolding wordsOf over-more

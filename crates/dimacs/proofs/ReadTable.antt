@@ -24,7 +24,7 @@ use Rattle.refusal.proofs.TableLaws.{Faithful}
 use Rattle.refusal.proofs.RoomLaws.{room-faithful}
 use Rattle.cnf.specs.Words.{zeros, closed}
 use Rattle.cnf.proofs.LentLaws.{tests-counts}
-use Rattle.dimacs.specs.Tokens.{Token, formed, wordOf}
+use Rattle.dimacs.specs.Tokens.{Token, formed, wordOf, Good}
 use Rattle.dimacs.specs.Header.{HeaderLine, isHeader}
 use Rattle.dimacs.specs.Rules.{tokenRules, endRules, headerStart, headerVariables, headerClauses, textTokens, textWords, headerRules, readRules, Formed, InRange, FirstAt, readTable}
 use Rattle.dimacs.proofs.HeaderLaws.{header-line, line-header}
@@ -32,9 +32,8 @@ use Rattle.dimacs.proofs.HeaderLaws.{header-line, line-header}
 -- ---- one token
 
 -- what is asked of a token, for variables up to v
-pub record WellToken (v : ℕ) (t : Token) : Type 0 where
-  pub well-formed : formed (t .bytes) ≡ true
-  pub in-range : natAbs (wordOf (t .bytes)) ≤ v
+abbrev pub GoodToken : ℕ → Token → Type 0
+GoodToken v t = Good v (t .bytes)
 
 abbrev misformed : Token → Bool
 misformed t = not (formed (t .bytes))
@@ -43,35 +42,35 @@ abbrev pub badToken : ℕ → Token → Bool
 badToken v t = misformed t || beyond v (wordOf (t .bytes))
 
 module _ (v : ℕ) (t : Token) where
-  neither-well : misformed t ≡ false → beyond v (wordOf (t .bytes)) ≡ false → WellToken v t
-  neither-well f b = record { well-formed = not-false (formed (t .bytes)) f; in-range = ltb-false v (natAbs (wordOf (t .bytes))) b }
+  neither-good : misformed t ≡ false → beyond v (wordOf (t .bytes)) ≡ false → GoodToken v t
+  neither-good f b = record { is-formed = not-false (formed (t .bytes)) f; in-range = ltb-false v (natAbs (wordOf (t .bytes))) b }
 
-  good-well : badToken v t ≡ false → WellToken v t
-  good-well e = let w = both-false (misformed t) (beyond v (wordOf (t .bytes))) e in neither-well (w .0) (w .1)
+  not-bad : badToken v t ≡ false → GoodToken v t
+  not-bad e = let w = both-false (misformed t) (beyond v (wordOf (t .bytes))) e in neither-good (w .0) (w .1)
 
-  well-good : WellToken v t → badToken v t ≡ false
-  well-good w = rw (w .well-formed, le-ltb v (natAbs (wordOf (t .bytes))) (w .in-range))
+  good-not-bad : GoodToken v t → badToken v t ≡ false
+  good-not-bad w = rw (w .is-formed, le-ltb v (natAbs (wordOf (t .bytes))) (w .in-range))
 
 -- ---- all tokens: every rule passes exactly when each token is well
 
-pub tokens-well : (v : ℕ) (ts : List Token) → chain (tokenRules v ts) ≡ Passed → Every (WellToken v) ts
+pub tokens-good : (v : ℕ) (ts : List Token) → chain (tokenRules v ts) ≡ Passed → Every (GoodToken v) ts
 unfolding tokenRules
-tokens-well v [] q = every-none (WellToken v)
-tokens-well v (t ∷ ts) q =
+tokens-good v [] q = every-none (GoodToken v)
+tokens-good v (t ∷ ts) q =
     let q₁₈ = not-due 18 _ _ q in
     let q₁₄ = not-due 14 _ _ (q₁₈ .1) in
-    every-more (WellToken v) (neither-well v t (if-none _ _ (q₁₈ .0)) (if-none _ _ (q₁₄ .0))) (tokens-well v ts (q₁₄ .1))
+    every-more (GoodToken v) (neither-good v t (if-none _ _ (q₁₈ .0)) (if-none _ _ (q₁₄ .0))) (tokens-good v ts (q₁₄ .1))
 
-pub well-tokens : (v : ℕ) (ts : List Token) → Every (WellToken v) ts → chain (tokenRules v ts) ≡ Passed
+pub good-tokens : (v : ℕ) (ts : List Token) → Every (GoodToken v) ts → chain (tokenRules v ts) ≡ Passed
 unfolding tokenRules chain
-well-tokens v [] g = refl
-well-tokens v (t ∷ ts) g =
+good-tokens v [] g = refl
+good-tokens v (t ∷ ts) g =
     let w = g t (List·Memᴰ·head refl) in
-    rw (w .well-formed, le-ltb v (natAbs (wordOf (t .bytes))) (w .in-range)) (well-tokens v ts (λ x m. g x (List·Memᴰ·tail m)))
+    rw (w .is-formed, le-ltb v (natAbs (wordOf (t .bytes))) (w .in-range)) (good-tokens v ts (λ x m. g x (List·Memᴰ·tail m)))
 
 -- and then so they do for more variables
 pub tokens-wider : (v w : ℕ) (ts : List Token) → v ≤ w → chain (tokenRules v ts) ≡ Passed → chain (tokenRules w ts) ≡ Passed
-tokens-wider v w ts h q = well-tokens w ts (λ t m. let k = tokens-well v ts q t m in record { well-formed = k .well-formed; in-range = omega (arith, h, k .in-range) })
+tokens-wider v w ts h q = good-tokens w ts (λ t m. let k = tokens-good v ts q t m in record { is-formed = k .is-formed; in-range = omega (arith, h, k .in-range) })
 
 -- ---- the first bad token
 
@@ -155,7 +154,7 @@ module _ (text : List ℕ) where
 
   -- the same as the table says it
   first-reached : {kind : Token → Bool} {k p : ℕ} → IsFirst bad kind (textTokens text) k p → FirstAt text k p
-  first-reached f = record { is-token = f .is-token; begins = f .begins; before = λ j h. let w = good-well (headerVariables text) (token j) (f .before j h) in (w .well-formed, w .in-range) }
+  first-reached f = record { is-token = f .is-token; begins = f .begins; before = λ j h. let w = not-bad (headerVariables text) (token j) (f .before j h) in (w .is-formed, w .in-range) }
 
   reached-first : {kind : Token → Bool} {k p : ℕ} → FirstAt text k p → bad (token k) ≡ true → kind (token k) ≡ true → IsFirst bad kind (textTokens text) k p
   reached-first f b e =
@@ -164,7 +163,7 @@ module _ (text : List ℕ) where
         begins = f .begins;
         is-bad = b;
         is-kind = e;
-        before = λ j h. let w = f .before j h in well-good (headerVariables text) (token j) (record { well-formed = w .0; in-range = w .1 });
+        before = λ j h. let w = f .before j h in good-not-bad (headerVariables text) (token j) (record { is-formed = w .0; in-range = w .1 });
       }
 
   pub misformed-row : (p : ℕ) → (misformedAt (headerVariables text) (textTokens text) ≡ At p) ↔ ((k : ℕ) × FirstAt text k p × (Formed text k → ⊥))
@@ -177,7 +176,7 @@ module _ (text : List ℕ) where
   beyond-row p = (
     (λ e.
         let w = first-exactly bad (λ t. formed (t .bytes)) (textTokens text) p .0 e in
-        (w .0, first-reached (w .1), w .1 .is-kind, λ h. true≢false (sym (w .1 .is-bad) ∙ well-good (headerVariables text) (token (w .0)) (record { well-formed = w .1 .is-kind; in-range = h })))),
+        (w .0, first-reached (w .1), w .1 .is-kind, λ h. true≢false (sym (w .1 .is-bad) ∙ good-not-bad (headerVariables text) (token (w .0)) (record { is-formed = w .1 .is-kind; in-range = h })))),
     (λ w.
         let b : bad (token (w .0)) ≡ true = rw (w .2) (lt-ltb (headerVariables text) _ (omega (arith, w .3))) in
         first-exactly bad (λ t. formed (t .bytes)) (textTokens text) p .1 (w .0, reached-first (w .1) b (w .2))),

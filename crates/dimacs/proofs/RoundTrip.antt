@@ -1,13 +1,12 @@
 -- Whatever `write_text` accepts, `read_text` gives back: the same words, the same V and the same clause count. Assumes
 -- nothing.
 use mathlib.Core.Path.{_≡_, refl, sym, _∙_, ap, subst}
-use mathlib.Core.Bool.{true, false, not}
-use mathlib.Core.List.{List, [], _∷_, _++_}
-use Prim.Native.Nat.{ℕ, _+_, _≤_, _<_, _^_}
+use mathlib.Core.Bool.{false}
+use mathlib.Core.List.{List}
+use Prim.Native.Nat.{ℕ, _≤_, _<_, _^_}
 use native.Mathlib.Omega.{arith}
-use lib.Dec.{eqb}
 use lib.IntN.{ℤ, pos, natAbs}
-use lib.ListN.{length, take, drop}
+use lib.ListN.{length, drop}
 use borrow.Author.Tests.{eq-eqb}
 use Rattle.lists.specs.Buffer.{over}
 use Rattle.lists.specs.Every.{Every}
@@ -17,7 +16,6 @@ use Rattle.refusal.specs.declared.Verdict.the-variants.{Passed}
 use Rattle.refusal.proofs.RulesLaws.{passes}
 use Rattle.refusal.proofs.RoomLaws.{long-enough}
 use Rattle.decimal.specs.Digits.{digits, value}
-use Rattle.decimal.specs.Reading.{cut}
 use Rattle.decimal.proofs.DigitsLaws.{value-digits}
 use Rattle.cnf.specs.Words.{zeros}
 use Rattle.cnf.proofs.LentLaws.{WellWords, fit-counts}

@@ -11,17 +11,12 @@ use Rattle.decimal.specs.Reading.{positiveAt}
 use Rattle.refusal.specs.Rules.{chain}
 use Rattle.refusal.specs.declared.Verdict.the-variants as verdict
 use Rattle.cnf.specs.Words.{zeros, closed}
-use Rattle.dimacs.specs.Tokens.{lead, ended, Token, formed, wordOf, wordsOf}
+use Rattle.dimacs.specs.Tokens.{lead, ended, Token, formed, wordOf, Good, wordsOf}
 use Rattle.dimacs.specs.Rules.{tokenRules}
 use Rattle.dimacs.specs.declared.reader.Judged.{Judged}
 use Rattle.dimacs.specs.declared.reader.Judged.the-variants.{Misformed, Beyond, Zero, Literal}
 use Rattle.dimacs.specs.declared.reader.Pass.{Pass}
 use Rattle.dimacs.specs.declared.reader.Pass.the-variants.{Refused, Counted}
-
--- a token's bytes are well formed and no literal beyond v
-pub record Good (v : ℕ) (t : List ℕ) : Type 0 where
-  pub is-formed : formed t ≡ true
-  pub in-range : beyond v (wordOf t) ≡ false
 
 -- the token at i, for variables up to v
 abbrev pub TokenJudged : ℕ → List ℕ → ℕ → Judged → Type 0

@@ -1,9 +1,10 @@
 -- The tokens of a text, which of them are well formed, and the words that they say. Places count from 0. Assumes nothing.
+use mathlib.Core.Path.{_≡_}
 use mathlib.Core.Bool.{Bool, true, false, cond, not, _&&_, _||_}
 use mathlib.Core.List.{List, [], _∷_}
-use Prim.Native.Nat.{ℕ, _+_}
+use Prim.Native.Nat.{ℕ, _+_, _≤_}
 use lib.Dec.{eqb}
-use lib.IntN.{ℤ}
+use lib.IntN.{ℤ, natAbs}
 use lib.ListN.{drop}
 use Rattle.decimal.specs.Digits.{isDecimal, value}
 use Rattle.cnf.specs.Clause.{says}
@@ -52,6 +53,11 @@ formed t = isDecimal (unsigned t) && not (hasMinus t && eqb (value (unsigned t))
 -- its word
 unfoldable pub wordOf : List ℕ → ℤ
 wordOf t = says (not (hasMinus t)) (value (unsigned t))
+
+-- its bytes are well formed, and say no literal beyond v
+pub record Good (v : ℕ) (t : List ℕ) : Type 0 where
+  pub is-formed : formed t ≡ true
+  pub in-range : natAbs (wordOf t) ≤ v
 
 -- the words of tokens
 unfoldable pub wordsOf : List Token → List ℤ

@@ -9,15 +9,15 @@ use refusal::Verdict;
 ghost use mathlib.Core.Path.{_≡_};
 ghost use mathlib.Core.Bool.{true, false};
 ghost use mathlib.Core.List.{_++_};
-ghost use Prim.Native.Nat.{ℕ, _+_, _≤_, _<_};
+ghost use Prim.Native.Nat.{_+_, _≤_, _<_};
 ghost use lib.Dec.{eqb};
 ghost use lib.ListN.{length, getD, drop};
 ghost use Rattle.lists.specs.Buffer.{over};
 ghost use Rattle.refusal.specs.Rules.{refusal, chain};
-ghost use Rattle.dimacs.specs.Tokens.{isGap, lead, ended, wordOf, wordsOf};
+ghost use Rattle.dimacs.specs.Tokens.{isGap, lead, ended, wordOf, Good, wordsOf};
 ghost use Rattle.dimacs.specs.Header.{comments, fieldAt, isHeader, HeaderRead};
 ghost use Rattle.dimacs.specs.Rules.{tokenRules, endRules, tokensFrom};
-ghost use Rattle.dimacs.specs.Passes.{Good, TokenJudged, DigitsJudged, PassedOver};
+ghost use Rattle.dimacs.specs.Passes.{TokenJudged, DigitsJudged, PassedOver};
 ghost use Rattle.dimacs.specs.Read.{ReadBy, ReadPromise};
 
 // ---- comment lines and the header

@@ -1,8 +1,6 @@
 -- `cnf::check_counted` meets its contract: number 16 by any of its limits, and then 14 and 15. Assumes nothing.
 use mathlib.Core.Path.{_≡_, sym, _∙_}
 use mathlib.Core.Bool.{Bool, true, false, _||_}
-use lib.Dec.{ltb}
-use lib.ListN.{length}
 use borrow.Author.Needs.{needs}
 use borrow.Author.Tests.{lt-ltb, le-ltb}
 use Rattle.refusal.proofs.RulesLaws.{tested, not-tested}

@@ -1,5 +1,5 @@
 -- `cnf::is_beyond` meets its contract: the word is compared as it is, and only V is negated. Assumes nothing.
-use mathlib.Core.Path.{_≡_, sym}
+use mathlib.Core.Path.{sym}
 use Prim.Native.Nat.{_<_, _^_}
 use native.Mathlib.Omega.{arith}
 use lib.IntN.{natAbs}

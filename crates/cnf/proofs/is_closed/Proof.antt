@@ -1,5 +1,5 @@
 -- `cnf::is_closed` meets its contract: there is no word, or the last one is 0. Assumes nothing.
-use mathlib.Core.Path.{_≡_, sym, _∙_}
+use mathlib.Core.Path.{sym, _∙_}
 use borrow.Author.Needs.{needs}
 use Rattle.lists.proofs.SignedLaws.{zero-is}
 use Rattle.cnf.proofs.WordsLaws.{closed-empty, closed-last}

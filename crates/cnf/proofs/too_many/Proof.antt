@@ -1,5 +1,4 @@
 -- `cnf::too_many` meets its contract. Assumes nothing.
-use mathlib.Core.Path.{sym}
 use borrow.Author.Needs.{needs}
 use borrow.Author.Tests.{lt-ltb, le-ltb}
 use Rattle.cnf.proofs.too_many.Statement.{statement}

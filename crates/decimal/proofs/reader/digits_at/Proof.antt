@@ -1,7 +1,6 @@
 -- `decimal::reader::digits_at` meets its contract: before each turn the digits are read up to i. Assumes nothing.
 use mathlib.Core.Path.{sym, _∙_}
 use Prim.Native.Nat.{_-_}
-use native.Mathlib.Omega.{arith}
 use lib.ListN.{length}
 use borrow.Author.Needs.{needs}
 use Rattle.decimal.proofs.DigitsLaws.{digit-range}

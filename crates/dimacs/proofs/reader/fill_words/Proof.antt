@@ -1,7 +1,7 @@
 -- `dimacs::reader::fill_words` meets its contract: before turn k the first k words stand at the front. Assumes nothing.
 use mathlib.Core.Path.{_≡_, sym, _∙_, subst}
 use mathlib.Core.Bool.{false}
-use Prim.Native.Nat.{_+_, _-_, _≤_, _<_}
+use Prim.Native.Nat.{_-_, _≤_, _<_}
 use native.Mathlib.Omega.{arith}
 use lib.ListN.{length, getD, drop}
 use borrow.Author.Needs.{needs}
@@ -10,11 +10,9 @@ use mir.Val.{SFits}
 use mir.ValLaws.{toZ-ofZ}
 use Rattle.lists.proofs.SignedLaws.{abs-fits}
 use Rattle.lists.proofs.BufferLaws.{written, kept}
-use Rattle.dimacs.specs.Tokens.{isGap, lead}
+use Rattle.dimacs.specs.Tokens.{isGap, lead, Good}
 use Rattle.dimacs.specs.Rules.{tokensFrom}
-use Rattle.dimacs.specs.Passes.{Good}
 use Rattle.dimacs.proofs.TokenLaws.{lead-inside}
-use Rattle.dimacs.proofs.JudgeLaws.{good-range}
 use Rattle.dimacs.proofs.PassLaws.{words-of-length, Filling, filling-none, filling-inside, filling-gap, filling-good, filling-more, filling-all}
 use Rattle.dimacs.proofs.reader.fill_words.Statement.{statement}
 use Rattle.dimacs.proofs.reader.fill_words.Tie as tie
@@ -44,7 +42,7 @@ ends c =
     (omega (arith, q), omega (arith, q, lead-inside (l .before .before .before .args .text .now) (l .before .loop .i) (inside l)))
 
 fits : (c : tie.After-word-at Inv-loop μ-loop) → SFits w32 (c .word-at .result .value)
-fits c = subst (SFits w32) (sym (c .word-at .ensures .0)) (abs-fits _ (omega (arith, good-range 1000000 _ (good (c .before)))))
+fits c = subst (SFits w32) (sym (c .word-at .ensures .0)) (abs-fits _ (omega (arith, good (c .before) .in-range)))
 
 pub fill-words-spec : {M : Type 1} → statement M
 fill-words-spec =

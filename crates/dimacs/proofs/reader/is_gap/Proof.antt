@@ -1,5 +1,4 @@
 -- `dimacs::reader::is_gap` meets its contract. Assumes nothing.
-use mathlib.Core.Path.{_≡_, sym}
 use borrow.Author.Tests.{eq-eqb, ne-eqb}
 use Rattle.dimacs.specs.Tokens.{isGap}
 use Rattle.dimacs.proofs.reader.is_gap.Statement.{statement}

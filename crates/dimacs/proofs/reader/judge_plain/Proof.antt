@@ -11,8 +11,7 @@ use borrow.Author.Tests.{not-true, not-false, eqb-false, eq-eqb, ne-eqb}
 use Rattle.lists.specs.Signed.{isZero}
 use Rattle.decimal.specs.Reading.{readingAt}
 use Rattle.decimal.specs.declared.Reading.{Reading}
-use Rattle.dimacs.specs.Tokens.{lead, ended, wordOf}
-use Rattle.dimacs.specs.Passes.{Good}
+use Rattle.dimacs.specs.Tokens.{lead, ended, wordOf, Good}
 use Rattle.dimacs.proofs.JudgeLaws.{plain-bad, plain-open, plain-beyond, plain-word}
 use Rattle.dimacs.proofs.reader.judge_plain.Statement.{statement}
 use Rattle.dimacs.proofs.reader.judge_plain.Tie as tie

@@ -1,7 +1,7 @@
 -- `dimacs::reader::judge_tokens` meets its contract: before each turn the tokens up to i are good, and counted. Assumes
 -- nothing.
 use mathlib.Core.Path.{_≡_, sym, _∙_, subst}
-use mathlib.Core.Bool.{true, false}
+use mathlib.Core.Bool.{false}
 use Prim.Native.Nat.{ℕ, _+_, _-_, _≤_}
 use native.Mathlib.Omega.{arith}
 use lib.ListN.{length, getD, drop}

@@ -12,7 +12,7 @@ use Rattle.decimal.specs.Reading.{readingAt}
 use Rattle.decimal.specs.declared.Reading.{Reading}
 use Rattle.decimal.proofs.BytesLaws.{has-inside}
 use Rattle.dimacs.specs.Text.{head, space, lineFeed}
-use Rattle.dimacs.specs.Header.{fieldAt, variablesAt, clausesAt, isHeader}
+use Rattle.dimacs.specs.Header.{fieldAt, variablesAt, clausesAt}
 use Rattle.dimacs.proofs.HeaderLaws.{no-head, no-variables, by-clauses, field-inside}
 use Rattle.dimacs.proofs.reader.read_header.Statement.{statement}
 use Rattle.dimacs.proofs.reader.read_header.Tie as tie

@@ -1,6 +1,5 @@
 -- `dimacs::reader::skip_comments` meets its contract: before each turn the comment lines are passed up to i. Assumes nothing.
 use Prim.Native.Nat.{_-_}
-use native.Mathlib.Omega.{arith}
 use lib.ListN.{length}
 use borrow.Author.Needs.{needs}
 use Rattle.dimacs.proofs.CommentLaws.{Skipping, skipping-none, skipping-on, skipping-new, skipping-stop, skipping-all}
