@@ -17,13 +17,7 @@ use Rattle.refusal.specs.declared.Verdict.the-variants.{Passed, Refused}
 use Rattle.refusal.proofs.RulesLaws.{not-due}
 use Rattle.refusal.proofs.TableLaws.{Faithful}
 use Rattle.cnf.specs.Words.{zeros, closed}
-use Rattle.cnf.specs.Lent.{CountsFit, LimitsKept, InRange, wordTable, tooMany, beyondAt, literalRules, countedRules, wordRules}
-
--- what is asked of a word list
-pub record WellWords (v : ℕ) (ws : List ℤ) : Type 0 where
-  pub limits : LimitsKept v ws
-  pub in-range : (k : ℕ) → k < length ws → InRange v ws k
-  pub ends : closed ws ≡ true
+use Rattle.cnf.specs.Lent.{CountsFit, LimitsKept, InRange, WellWords, wordTable, tooMany, beyondAt, literalRules, countedRules, wordRules}
 
 -- ---- number 16
 

@@ -3,7 +3,7 @@
 use mathlib.Core.Path.{_≡_}
 use mathlib.Core.Bool.{Bool, true, not, cond, _||_}
 use mathlib.Core.List.{List, [], _∷_}
-use Prim.Native.Nat.{ℕ, _≤_}
+use Prim.Native.Nat.{ℕ, _≤_, _<_}
 use lib.Dec.{ltb}
 use lib.IntN.{ℤ, pos, natAbs}
 use lib.ListN.{length, getD}
@@ -20,11 +20,12 @@ word ws k = getD ws k (pos 0)
 
 -- ---- the table
 
--- 16: the limits of V and of the number of clauses, which are the zeros; and of the number of words
+-- 16: the limits of V and of a number of clauses
 pub record CountsFit (v clauses : ℕ) : Type 0 where
   pub variables : v ≤ 1000000
   pub clause-count : clauses ≤ 4000000
 
+-- and of a word list, whose clauses are its zeros
 pub record LimitsKept (v : ℕ) (ws : List ℤ) : Type 0 where
   pub counts : CountsFit v (zeros ws)
   pub words : length ws ≤ 100000000
@@ -32,6 +33,12 @@ pub record LimitsKept (v : ℕ) (ws : List ℤ) : Type 0 where
 -- 14: the word at index k is no literal beyond v
 abbrev pub InRange : ℕ → List ℤ → ℕ → Type 0
 InRange v ws k = natAbs (word ws k) ≤ v
+
+-- what is asked of a word list, all in all
+pub record WellWords (v : ℕ) (ws : List ℤ) : Type 0 where
+  pub limits : LimitsKept v ws
+  pub in-range : (k : ℕ) → k < length ws → InRange v ws k
+  pub ends : closed ws ≡ true
 
 -- numbers 16, 14 and 15, with their places
 abbrev pub wordTable : ℕ → List ℤ → List Row
@@ -60,5 +67,6 @@ literalRules v ws some =
 unfoldable pub countedRules : ℕ → List ℤ → ℕ → Bool → List Rule
 countedRules v ws clauses some = rule 16 (foundIf (tooMany v clauses || ltb 100000000 (length ws)) 0) ∷ literalRules v ws some
 
+-- with its own counts: 16, then 14, searched for, then 15
 unfoldable pub wordRules : ℕ → List ℤ → List Rule
 wordRules v ws = countedRules v ws (zeros ws) true

@@ -54,7 +54,7 @@ pub fn variable_of(literal: i32) -> u32
 }
 
 // Whether a word is a literal beyond the last variable. It is compared at both ends, and not negated.
-pub fn is_beyond(variables: u32, word: i32) -> bool
+fn is_beyond(variables: u32, word: i32) -> bool
     ensures { λ r. ⌜ r ≡ beyond variables word ⌝ }
 {
     if 2147483647 < variables {
@@ -139,7 +139,8 @@ fn check_literals(variables: u32, words: &[i32], some: bool) -> Verdict
     refusal::verdict_of(Refusal::OPEN_CLAUSE, open_end(words))
 }
 
-// 16, 14 and 15 of a lent word list that has been counted: `clauses` zeros, and `some` literal beyond V or none.
+// 16, 14 and 15 of a lent word list that the caller has counted, and is believed: `clauses` zeros, and `some` literal beyond
+// V or none.
 pub fn check_counted(variables: u32, words: &[i32], clauses: u32, some: bool) -> Verdict
     ensures { λ r. ⌜ r ≡ chain (countedRules variables (now (words .entry)) clauses some) ⌝ }
 {

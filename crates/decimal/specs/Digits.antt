@@ -23,7 +23,7 @@ plain (b ∷ c ∷ bs) = not (eqb b 48)
 unfoldable pub isDecimal : List ℕ → Bool
 isDecimal bs = allDigits bs && plain bs
 
--- the number that digits say which follow digits of the number v
+-- the number that digits say, read on from a number v
 unfoldable pub valueFrom : ℕ → List ℕ → ℕ
 valueFrom v [] = v
 valueFrom v (b ∷ bs) = valueFrom (v * 10 + (b - 48)) bs

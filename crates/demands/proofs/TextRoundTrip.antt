@@ -14,22 +14,22 @@ use Rattle.diagram.specs.Sound.{Sound, Within}
 use Rattle.cnf.specs.Clause.{words}
 use Rattle.cnf.specs.Words.{zeros, NoZeros}
 use Rattle.cnf.specs.Encoded.{tallyOf, tally-same}
-use Rattle.cnf.specs.Lent.{LimitsKept, word}
+use Rattle.cnf.specs.Lent.{LimitsKept, word, WellWords}
 use Rattle.cnf.specs.declared.Tally.{Tally}
 use Rattle.cnf.specs.declared.Encoded.the-variants.{Written}
 use Rattle.cnf.specs.declared.EncodeAnswer.{EncodeAnswer}
 use Rattle.cnf.proofs.WordsLaws.{clauses-no-zero}
-use Rattle.cnf.proofs.LentLaws.{WellWords}
 use Rattle.cnf.proofs.EncodedLaws.{written-exactly, written-list}
 use Rattle.clauses.specs.Clauses.{Edition, edition1, lastVariable, clauses}
 use Rattle.clauses.proofs.Edition1.{edition1-own}
 use Rattle.encoder.specs.Promise.{encodeRules, EncodePromise}
 use Rattle.dimacs.specs.Text.{body, headerLine, textOf}
+use Rattle.dimacs.specs.Write.{WritePromise}
 use Rattle.dimacs.specs.Read.{tallyRead}
 use Rattle.dimacs.specs.declared.TextWritten.the-variants as text
 use Rattle.dimacs.specs.declared.TextRead.the-variants.{Read}
 use Rattle.dimacs.proofs.BodyLaws.{one-line-a-clause, text-bytes}
-use Rattle.dimacs.proofs.WriteLaws.{written-exactly as text-written}
+use Rattle.dimacs.proofs.WriteLaws.{written-exactly as text-written, written-text}
 use Rattle.dimacs.proofs.RoundTrip.{gives-back}
 use Rattle.demands.specs.Demand2.{WellFormed, TextRoundTrip}
 use Rattle.demands.proofs.Demand2.{well-formed, maxima}
@@ -82,7 +82,10 @@ module _ (e : Edition) (d : Lent) (f : WellFormed e d) (limits : LimitsKept (las
       record {
         the-text = ap (λ (k : ℕ). headerLine v k ++ body ws) (f .one-zero-each) ∙ ap (λ (l : List ℕ). headerLine v (length (clauses e d)) ++ l) (one-line-a-clause (clauses e d) no-zeros);
         its-bytes = text-bytes v ws (omega (arith, limits .counts .variables)) (omega (arith, limits .counts .clause-count)) (λ w m. omega (arith, in-range w m, limits .counts .variables));
-        accepted = λ before after encoded t p q page page′ answer j h. text-written (t .variables) (take (t .words) after) page answer page′ j _ .1 (is-well before after encoded t p q, h, refl);
+        accepted = λ before after encoded t p q page page′ answer j h.
+            let o = subst (λ (u : ℕ). WritePromise u ws page answer page′) (its-last before after encoded t p q) (subst (λ (l : List ℤ). WritePromise (t .variables) l page answer page′) (its-words before after encoded t p q) j) in
+            let a = text-written v ws page answer page′ o _ .1 (well-words, h, refl) in
+            (a, written-text v ws page answer page′ o _ a .0);
         given-back = λ before after encoded t p q page page′ answer n j k lent list read r h.
             let m = many before after encoded t p q in
             let w = gives-back (t .variables) (take (t .words) after) page page′ answer n j k lent list read r (omega (arith, m, h)) in

@@ -89,14 +89,14 @@ pub record WellFormed (e : Edition) (d : Lent) : Type 0 where
 
 -- the list as clause text. The text is the header's line, with V and the number of clauses, and then a line a clause, and has
 -- no bytes but digits, spaces, minuses, line feeds and the header's letters. What `encode` has written is accepted by
--- `write_text`; and `read_text` of the bytes that `write_text` has written gives the same words, their number, the number of
+-- `write_text`, which writes that text; and `read_text` of the bytes that `write_text` has written gives the same words, their number, the number of
 -- clauses and V, wherever the lent buffers are long enough
 pub record TextRoundTrip (e : Edition) (d : Lent) : Type 0 where
   pub the-text : textOf (lastVariable e d) (words (clauses e d)) ≡ headerLine (lastVariable e d) (length (clauses e d)) ++ linesOf (clauses e d)
   pub its-bytes : Every TextByte (textOf (lastVariable e d) (words (clauses e d)))
   pub accepted : (before after : List ℤ) (encoded : EncodeAnswer) (t : Tally) → EncodePromise e d before encoded after → encoded .outcome ≡ Written t
-      → (page page′ : List ℕ) (answer : WriteAnswer) → WritePromise (t .variables) (take (t .words) after) page answer page′ → length (textOf (t .variables) (take (t .words) after)) ≤ length page
-      → answer .outcome ≡ text.Written (length (textOf (t .variables) (take (t .words) after)))
+      → (page page′ : List ℕ) (answer : WriteAnswer) → WritePromise (t .variables) (take (t .words) after) page answer page′ → length (textOf (lastVariable e d) (words (clauses e d))) ≤ length page
+      → (answer .outcome ≡ text.Written (length (textOf (lastVariable e d) (words (clauses e d))))) × (take (length (textOf (lastVariable e d) (words (clauses e d)))) page′ ≡ textOf (lastVariable e d) (words (clauses e d)))
   pub given-back : (before after : List ℤ) (encoded : EncodeAnswer) (t : Tally) → EncodePromise e d before encoded after → encoded .outcome ≡ Written t
       → (page page′ : List ℕ) (answer : WriteAnswer) (n : ℕ) → WritePromise (t .variables) (take (t .words) after) page answer page′ → answer .outcome ≡ text.Written n
       → (lent list : List ℤ) (read : ReadAnswer) → ReadPromise (take n page′) lent read list → t .words ≤ length lent

@@ -19,7 +19,8 @@ use Rattle.refusal.specs.declared.Verdict.the-variants.{Passed}
 use Rattle.decimal.specs.Digits.{digits}
 use Rattle.decimal.proofs.DigitsLaws.{digits-small, all-digits, all-every, digits-decimal, value-digits, length-pos}
 use Rattle.cnf.specs.Clause.{Clause, words}
-use Rattle.cnf.specs.Words.{zeros, NoZero, NoZeros}
+use Rattle.cnf.specs.Words.{clausesOf, zeros, closed, NoZero, NoZeros}
+use Rattle.cnf.proofs.WordsLaws.{words-clauses, clauses-no-zero}
 use Rattle.cnf.specs.Lent.{word}
 use Rattle.dimacs.specs.Text.{head, space, lineFeed, literalText, wordText, body, headerLine, textOf, lineOf, linesOf, marks, TextByte}
 use Rattle.dimacs.specs.Tokens.{isGap, ended, tokens, hasMinus, unsigned, formed, wordOf, wordsOf}
@@ -120,6 +121,10 @@ one-line-a-clause [] g = body-none
 one-line-a-clause (c ∷ cs) g =
     line-first c (words cs) (g c (List·Memᴰ·head refl))
     ∙ ap (λ (l : List ℕ). lineOf c ++ l) (one-line-a-clause cs (λ d m. g d (List·Memᴰ·tail m)))
+
+-- and so is that of any word list whose last clause is closed
+pub lines-of-words : (ws : List ℤ) → closed ws ≡ true → body ws ≡ linesOf (clausesOf ws)
+lines-of-words ws c = ap body (sym (words-clauses ws c)) ∙ one-line-a-clause (clausesOf ws) (clauses-no-zero ws)
 
 -- ---- its bytes
 

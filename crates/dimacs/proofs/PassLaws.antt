@@ -67,20 +67,20 @@ module _ (v : ℕ) (t : Token) (ts : List Token) where
 -- ---- up to a place
 
 -- all tokens from `from` on are those of `done`, which are good, and those from i on
-pub record Over (v : ℕ) (text : List ℕ) (from i : ℕ) : Type 0 where
+pub record Behind (v : ℕ) (text : List ℕ) (from i : ℕ) : Type 0 where
   pub done : List Token
   pub split : tokensFrom text from ≡ done ++ tokensFrom text i
   pub passed : chain (tokenRules v done) ≡ Passed
 
 module _ (v : ℕ) (text : List ℕ) (from : ℕ) where
-  pub over-none : Over v text from from
+  pub over-none : Behind v text from from
   over-none = record { done = []; split = refl; passed = none-passed v }
 
-  module _ (i : ℕ) (o : Over v text from i) where
+  module _ (i : ℕ) (o : Behind v text from i) where
     abbrev here : Token
     here = record { start = i; bytes = lead (drop i text) }
 
-    pub over-gap : i < length text → isGap (getD text i 0) ≡ true → Over v text from (i + 1)
+    pub over-gap : i < length text → isGap (getD text i 0) ≡ true → Behind v text from (i + 1)
     over-gap h g = record { done = o .done; split = o .split ∙ ap (λ (ts : List Token). o .done ++ ts) (gap-at text i h g); passed = o .passed }
 
     module _ (h : i < length text) (g : isGap (getD text i 0) ≡ false) where
@@ -94,7 +94,7 @@ module _ (v : ℕ) (text : List ℕ) (from : ℕ) where
       over-beyond f b = ahead ∙ beyond-first v here _ f b
 
       -- one more, which ends at e
-      pub over-more : Good v (lead (drop i text)) → (e : ℕ) → e ≡ i + length (lead (drop i text)) → Over v text from (e + 1)
+      pub over-more : Good v (lead (drop i text)) → (e : ℕ) → e ≡ i + length (lead (drop i text)) → Behind v text from (e + 1)
       over-more k e q = record {
         done = o .done ++ (here ∷ []);
         split = o .split ∙ ap (λ (ts : List Token). o .done ++ ts) (token-at text i h g ∙ ap (λ (n : ℕ). here ∷ tokensFrom text n) (sym q) ∙ ap (λ (ts : List Token). here ∷ ts) (past-token text i e q)) ∙ sym (append-assoc (o .done) (here ∷ []) (tokensFrom text (e + 1)));
@@ -108,7 +108,7 @@ module _ (v : ℕ) (text : List ℕ) (from : ℕ) where
 
 -- n words and z clauses, of which the last is closed or not
 pub record Counting (v : ℕ) (text : List ℕ) (from i n z : ℕ) (c : Bool) : Type 0 where
-  pub over : Over v text from i
+  pub over : Behind v text from i
   pub words : n ≡ length (over .done)
   pub clauses : z ≡ zeros (wordsOf (over .done))
   pub ends : c ≡ closed (wordsOf (over .done))
@@ -178,7 +178,7 @@ nothing (t ∷ ts) h = absurd (omega arith)
 
 -- k words stand at the front of the lent list
 pub record Filling (v : ℕ) (text : List ℕ) (from : ℕ) (lent : List ℤ) (i k : ℕ) (list : List ℤ) : Type 0 where
-  pub over : Over v text from i
+  pub over : Behind v text from i
   pub words : k ≡ length (over .done)
   pub wrote : Wrote lent 0 (wordsOf (over .done)) list k
 

@@ -7,7 +7,7 @@ use mathlib.Core.Logic.{_↔_}
 use Prim.Native.Nat.{ℕ, zero, suc, _≤_, _<_}
 use native.Mathlib.Omega.{arith}
 use lib.IntN.{natAbs}
-use lib.ListN.{length, getD, drop}
+use lib.ListN.{length, drop}
 use borrow.Author.Tests.{ltb-false, le-ltb, lt-ltb, not-true, not-false}
 use Rattle.lists.specs.Every.{Every}
 use Rattle.lists.specs.First.{foundIf}
@@ -26,7 +26,7 @@ use Rattle.cnf.specs.Words.{zeros, closed}
 use Rattle.cnf.proofs.LentLaws.{tests-counts}
 use Rattle.dimacs.specs.Tokens.{Token, formed, wordOf, Good}
 use Rattle.dimacs.specs.Header.{HeaderLine, isHeader}
-use Rattle.dimacs.specs.Rules.{tokenRules, endRules, headerStart, headerVariables, headerClauses, textTokens, textWords, headerRules, readRules, Formed, InRange, FirstAt, readTable}
+use Rattle.dimacs.specs.Rules.{tokenRules, endRules, tokenOf, headerStart, headerVariables, headerClauses, textTokens, textWords, headerRules, readRules, Formed, InRange, FirstAt, readTable}
 use Rattle.dimacs.proofs.HeaderLaws.{header-line, line-header}
 
 -- ---- one token
@@ -83,33 +83,29 @@ firstOf bad kind (t ∷ ts) = cond (bad t) (foundIf (kind t) (t .start)) (firstO
 abbrev pub misformedAt : ℕ → List Token → Found
 misformedAt v = firstOf (badToken v) misformed
 
-abbrev pub beyondAt : ℕ → List Token → Found
-beyondAt v = firstOf (badToken v) (λ t. formed (t .bytes))
+abbrev pub outOfRangeAt : ℕ → List Token → Found
+outOfRangeAt v = firstOf (badToken v) (λ t. formed (t .bytes))
 
 -- two searches in place of two rules for each token
-pub token-chain : (v : ℕ) (ts : List Token) (rest : List Rule) → chain (tokenRules v ts ++ rest) ≡ chain (rule 18 (misformedAt v ts) ∷ rule 14 (beyondAt v ts) ∷ rest)
+pub token-chain : (v : ℕ) (ts : List Token) (rest : List Rule) → chain (tokenRules v ts ++ rest) ≡ chain (rule 18 (misformedAt v ts) ∷ rule 14 (outOfRangeAt v ts) ∷ rest)
 unfolding tokenRules chain firstOf
 token-chain v [] rest = refl
 token-chain v (t ∷ ts) rest = go (formed (t .bytes)) refl (beyond v (wordOf (t .bytes))) refl (token-chain v ts rest)
   where
     go : (f : Bool) → formed (t .bytes) ≡ f → (b : Bool) → beyond v (wordOf (t .bytes)) ≡ b
-        → chain (tokenRules v ts ++ rest) ≡ chain (rule 18 (misformedAt v ts) ∷ rule 14 (beyondAt v ts) ∷ rest)
-        → chain (tokenRules v (t ∷ ts) ++ rest) ≡ chain (rule 18 (misformedAt v (t ∷ ts)) ∷ rule 14 (beyondAt v (t ∷ ts)) ∷ rest)
+        → chain (tokenRules v ts ++ rest) ≡ chain (rule 18 (misformedAt v ts) ∷ rule 14 (outOfRangeAt v ts) ∷ rest)
+        → chain (tokenRules v (t ∷ ts) ++ rest) ≡ chain (rule 18 (misformedAt v (t ∷ ts)) ∷ rule 14 (outOfRangeAt v (t ∷ ts)) ∷ rest)
     go false e b q r = rw e
     go true e true q r = rw (e, q)
     go true e false q r = rw (e, q) r
 
--- the token at an index
-abbrev pub tokenAt : List Token → ℕ → Token
-tokenAt ts k = getD ts k (record { start = 0; bytes = [] })
-
 -- the token with the index k begins at p, is bad and of the kind, and those before it are not bad
 pub record IsFirst (bad kind : Token → Bool) (ts : List Token) (k p : ℕ) : Type 0 where
   pub is-token : k < length ts
-  pub begins : p ≡ tokenAt ts k .start
-  pub is-bad : bad (tokenAt ts k) ≡ true
-  pub is-kind : kind (tokenAt ts k) ≡ true
-  pub before : (j : ℕ) → j < k → bad (tokenAt ts j) ≡ false
+  pub begins : p ≡ tokenOf ts k .start
+  pub is-bad : bad (tokenOf ts k) ≡ true
+  pub is-kind : kind (tokenOf ts k) ≡ true
+  pub before : (j : ℕ) → j < k → bad (tokenOf ts j) ≡ false
 
 module _ (bad kind : Token → Bool) where
   here : (t : Token) (ts : List Token) → bad t ≡ true → kind t ≡ true → IsFirst bad kind (t ∷ ts) 0 (t .start)
@@ -118,7 +114,7 @@ module _ (bad kind : Token → Bool) where
   later : (t : Token) (ts : List Token) (k p : ℕ) → bad t ≡ false → IsFirst bad kind ts k p → IsFirst bad kind (t ∷ ts) (suc k) p
   later t ts k p e f = record { is-token = omega arith; begins = f .begins; is-bad = f .is-bad; is-kind = f .is-kind; before = earlier }
     where
-      earlier : (j : ℕ) → j < suc k → bad (tokenAt (t ∷ ts) j) ≡ false
+      earlier : (j : ℕ) → j < suc k → bad (tokenOf (t ∷ ts) j) ≡ false
       earlier zero h = e
       earlier (suc j) h = f .before j (omega arith)
 
@@ -150,11 +146,11 @@ module _ (text : List ℕ) where
   bad = badToken (headerVariables text)
 
   abbrev token : ℕ → Token
-  token k = tokenAt (textTokens text) k
+  token k = tokenOf (textTokens text) k
 
   -- the same as the table says it
   first-reached : {kind : Token → Bool} {k p : ℕ} → IsFirst bad kind (textTokens text) k p → FirstAt text k p
-  first-reached f = record { is-token = f .is-token; begins = f .begins; before = λ j h. let w = not-bad (headerVariables text) (token j) (f .before j h) in (w .is-formed, w .in-range) }
+  first-reached f = record { is-token = f .is-token; begins = f .begins; before = λ j h. not-bad (headerVariables text) (token j) (f .before j h) }
 
   reached-first : {kind : Token → Bool} {k p : ℕ} → FirstAt text k p → bad (token k) ≡ true → kind (token k) ≡ true → IsFirst bad kind (textTokens text) k p
   reached-first f b e =
@@ -163,7 +159,7 @@ module _ (text : List ℕ) where
         begins = f .begins;
         is-bad = b;
         is-kind = e;
-        before = λ j h. let w = f .before j h in good-not-bad (headerVariables text) (token j) (record { is-formed = w .0; in-range = w .1 });
+        before = λ j h. good-not-bad (headerVariables text) (token j) (f .before j h);
       }
 
   pub misformed-row : (p : ℕ) → (misformedAt (headerVariables text) (textTokens text) ≡ At p) ↔ ((k : ℕ) × FirstAt text k p × (Formed text k → ⊥))
@@ -172,7 +168,7 @@ module _ (text : List ℕ) where
     (λ w. let e : misformed (token (w .0)) ≡ true = ap not (is-false _ (w .2)) in first-exactly bad misformed (textTokens text) p .1 (w .0, reached-first (w .1) (rw e) e)),
   )
 
-  pub beyond-row : (p : ℕ) → (beyondAt (headerVariables text) (textTokens text) ≡ At p) ↔ ((k : ℕ) × FirstAt text k p × Formed text k × (InRange text k → ⊥))
+  pub beyond-row : (p : ℕ) → (outOfRangeAt (headerVariables text) (textTokens text) ≡ At p) ↔ ((k : ℕ) × FirstAt text k p × Formed text k × (InRange text k → ⊥))
   beyond-row p = (
     (λ e.
         let w = first-exactly bad (λ t. formed (t .bytes)) (textTokens text) p .0 e in
@@ -204,7 +200,7 @@ module _ (text : List ℕ) where
 
   -- one rule for each row
   unfoldable pub tableRules : ℕ → List Rule
-  tableRules room = headerRules text ++ (rule 18 (misformedAt (headerVariables text) (textTokens text)) ∷ rule 14 (beyondAt (headerVariables text) (textTokens text)) ∷ endRules (length text) (headerClauses text) (textWords text) room)
+  tableRules room = headerRules text ++ (rule 18 (misformedAt (headerVariables text) (textTokens text)) ∷ rule 14 (outOfRangeAt (headerVariables text) (textTokens text)) ∷ endRules (length text) (headerClauses text) (textWords text) room)
 
   module _ (room : ℕ) where
     pub table-chain : chain (readRules text room) ≡ chain (tableRules room)

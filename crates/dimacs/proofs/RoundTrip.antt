@@ -17,8 +17,9 @@ use Rattle.refusal.proofs.RulesLaws.{passes}
 use Rattle.refusal.proofs.RoomLaws.{long-enough}
 use Rattle.decimal.specs.Digits.{digits, value}
 use Rattle.decimal.proofs.DigitsLaws.{value-digits}
+use Rattle.cnf.specs.Lent.{WellWords}
 use Rattle.cnf.specs.Words.{zeros}
-use Rattle.cnf.proofs.LentLaws.{WellWords, fit-counts}
+use Rattle.cnf.proofs.LentLaws.{fit-counts}
 use Rattle.dimacs.specs.Text.{body, textOf}
 use Rattle.dimacs.specs.Tokens.{tokens, wordsOf}
 use Rattle.dimacs.specs.Header.{variablesAt, clausesAt, isHeader, afterHeader}

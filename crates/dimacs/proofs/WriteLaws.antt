@@ -17,8 +17,8 @@ use Rattle.refusal.proofs.RulesLaws.{passes, passed}
 use Rattle.refusal.proofs.TableLaws.{Faithful, faithful-append}
 use Rattle.refusal.proofs.RoomLaws.{room-faithful, too-short, long-enough, fits}
 use Rattle.refusal.proofs.AnsweredLaws.{by-refusal, by-result, first-refuse, goes-on, Told, told}
-use Rattle.cnf.specs.Lent.{wordRules, wordTable}
-use Rattle.cnf.proofs.LentLaws.{WellWords, word-faithful, words-well, well-words}
+use Rattle.cnf.specs.Lent.{wordRules, wordTable, WellWords}
+use Rattle.cnf.proofs.LentLaws.{word-faithful, words-well, well-words}
 use Rattle.dimacs.specs.Text.{textOf}
 use Rattle.dimacs.specs.Write.{writeRules, writeTable, writtenSaid, WritePromise, written-said-once}
 use Rattle.dimacs.specs.declared.TextWritten.the-variants.{Written, Refused}

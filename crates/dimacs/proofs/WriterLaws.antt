@@ -25,18 +25,17 @@ use Rattle.decimal.proofs.BytesLaws.{put-wrote}
 use Rattle.decimal.proofs.DigitsLaws.{digits-small, length-pos}
 use Rattle.decimal.proofs.WriterLaws.{length-most, length-least}
 use Rattle.cnf.specs.Words.{zeros}
-use Rattle.cnf.specs.Lent.{word, beyondAt}
+use Rattle.cnf.specs.Lent.{word, beyondAt, WellWords}
 use Rattle.cnf.proofs.WordsLaws.{zeros-count, zero-only}
-use Rattle.cnf.proofs.LentLaws.{WellWords}
 use Rattle.dimacs.specs.Text.{head, space, lineFeed, minus, literalText, wordText, body, headerLine, textOf}
-use Rattle.dimacs.specs.Survey.{Cut, wordSize, Surveyed}
+use Rattle.dimacs.specs.Survey.{VariableCut, wordSize, Surveyed}
 
 -- ---- a word that is cut
 
-pub not-cut : {z : ℤ} {n : ℕ} → n ≡ natAbs z → Cut z n
+pub not-cut : {z : ℤ} {n : ℕ} → n ≡ natAbs z → VariableCut z n
 not-cut e = record { near = λ _. e; far = λ h. omega arith }
 
-module _ (z : ℤ) {n : ℕ} (fits : natAbs z < 10 ^ 20) (small : n < 10 ^ 20) (c : Cut z n) where
+module _ (z : ℤ) {n : ℕ} (fits : natAbs z < 10 ^ 20) (small : n < 10 ^ 20) (c : VariableCut z n) where
   -- it is beyond a limit exactly when the word is
   cut-beyond : (v : ℕ) → v ≤ 1000000 → leb (v + 1) n ≡ beyond v z
   cut-beyond v h = ap (λ (k : ℕ). leb k n) (add-one v) ∙ go (below-or-not 1000000 (natAbs z))
@@ -65,7 +64,7 @@ module _ {v : ℕ} {ws : List ℤ} where
 
   module _ {k clauses past size : ℕ} (s : Surveyed v ws k clauses past size) where
     -- the word at k is counted and measured by what is found of it
-    pub survey-more : {n zero past′ width sign : ℕ} → v ≤ 1000000 → natAbs (word ws k) < 10 ^ 20 → n < 10 ^ 20 → Cut (word ws k) n
+    pub survey-more : {n zero past′ width sign : ℕ} → v ≤ 1000000 → natAbs (word ws k) < 10 ^ 20 → n < 10 ^ 20 → VariableCut (word ws k) n
         → zero ≡ cond (isZero (word ws k)) 1 0 → past′ ≡ cond (leb (v + 1) n) 1 0 → width ≡ min 7 (length (digits n)) → sign ≡ cond (isNegative (word ws k)) 1 0
         → Surveyed v ws (k + 1) (clauses + zero) (past + past′) (size + (width + sign + 1))
     unfolding wordSize

@@ -13,7 +13,7 @@ use Rattle.refusal.specs.Rules.{Rule, rule, roomRule}
 use Rattle.refusal.specs.Table.{Row, row, roomRow}
 use Rattle.cnf.specs.Words.{zeros, closed}
 use Rattle.cnf.specs.Lent.{CountsFit, tooMany}
-use Rattle.dimacs.specs.Tokens.{Token, tokens, formed, wordOf, wordsOf}
+use Rattle.dimacs.specs.Tokens.{Token, tokens, formed, wordOf, Good, wordsOf}
 use Rattle.dimacs.specs.Header.{comments, HeaderLine, variablesAt, clausesAt, isHeader, afterHeader}
 
 -- tokens are judged from the left, 18 before 14 for one token, for variables up to v
@@ -21,7 +21,8 @@ unfoldable pub tokenRules : ℕ → List Token → List Rule
 tokenRules v [] = []
 tokenRules v (t ∷ ts) = rule 18 (foundIf (not (formed (t .bytes))) (t .start)) ∷ rule 14 (foundIf (beyond v (wordOf (t .bytes))) (t .start)) ∷ tokenRules v ts
 
--- the words end in a 0, are as many clauses as the header says, and fit into a lent list of `room`; the text has `size` bytes
+-- the last word, if there is one, is 0; the zeros are as many as the header says; and the words fit into a lent list of
+-- `room`. The text has `size` bytes
 unfoldable pub endRules : ℕ → ℕ → List ℤ → ℕ → List Rule
 endRules size clauses ws room =
     rule 15 (foundIf (not (closed ws)) size)
@@ -29,8 +30,12 @@ endRules size clauses ws room =
     ∷ roomRule (length ws) room
     ∷ []
 
+-- the token with the index k
+abbrev pub tokenOf : List Token → ℕ → Token
+tokenOf ts k = getD ts k (record { start = 0; bytes = [] })
+
 module _ (text : List ℕ) where
-  -- where the header's line begins, and what it says
+  -- where the header's line begins, and what it says (cut at 10,000,000,000, above both limits)
   abbrev pub headerStart : ℕ
   headerStart = comments false text
 
@@ -65,10 +70,10 @@ module _ (text : List ℕ) where
 
   -- the bytes of the token with the index k, and its place
   abbrev pub tokenBytes : ℕ → List ℕ
-  tokenBytes k = getD textTokens k (record { start = 0; bytes = [] }) .bytes
+  tokenBytes k = tokenOf textTokens k .bytes
 
   abbrev pub tokenStart : ℕ → ℕ
-  tokenStart k = getD textTokens k (record { start = 0; bytes = [] }) .start
+  tokenStart k = tokenOf textTokens k .start
 
   abbrev pub Formed : ℕ → Type 0
   Formed k = formed (tokenBytes k) ≡ true
@@ -76,11 +81,13 @@ module _ (text : List ℕ) where
   abbrev pub InRange : ℕ → Type 0
   InRange k = natAbs (wordOf (tokenBytes k)) ≤ headerVariables
 
-  -- the token with the index k begins at the place p, and those before it are well formed and in range
+  -- the token with the index k begins at the place p, and those before it are good: where it is bad itself, it is the first
   pub record FirstAt (k p : ℕ) : Type 0 where
     pub is-token : k < length textTokens
     pub begins : p ≡ tokenStart k
-    pub before : (j : ℕ) → j < k → Formed j × InRange j
+    pub before : (j : ℕ) → j < k → Good headerVariables (tokenBytes j)
+
+  -- looked for in this order: 16 is asked only of a line that has the form, and the later ones only after such a header
 
   abbrev pub readTable : ℕ → List Row
   readTable room =

@@ -1,4 +1,4 @@
--- What the writer's first pass finds of a word list. Assumes nothing.
+-- What the writer's first pass finds of a word list: internal, for its contract. Assumes nothing.
 use mathlib.Core.Path.{_≡_}
 use mathlib.Core.Bool.{cond}
 use mathlib.Core.List.{List}
@@ -11,7 +11,7 @@ use Rattle.decimal.specs.Digits.{digits}
 use Rattle.cnf.specs.Lent.{word, beyondAt}
 
 -- n is the variable that a word names, up to the largest limit; of one above the limit it is some number above it
-pub record Cut (z : ℤ) (n : ℕ) : Type 0 where
+pub record VariableCut (z : ℤ) (n : ℕ) : Type 0 where
   pub near : natAbs z ≤ 1000000 → n ≡ natAbs z
   pub far : 1000000 < natAbs z → 1000000 < n
 

@@ -29,8 +29,8 @@ pub record Token : Type 0 where
   pub start : ℕ
   pub bytes : List ℕ
 
--- the tokens of a text that begins at the place `at`: one begins at each byte that is no separator and does not follow such
--- a byte (`inside` says whether the text's first one does), and goes on as long as no separator comes
+-- the tokens of a text that begins at the place `at`: one begins at each byte that is no separator and stands first or after
+-- a separator, and goes on up to the next separator or the text's end (`inside` says that a token is being passed)
 unfoldable pub tokens : Bool → ℕ → List ℕ → List Token
 tokens inside at [] = []
 tokens inside at (b ∷ bs) = cond (isGap b) (tokens false (at + 1) bs) (cond inside (tokens true (at + 1) bs) (record { start = at; bytes = lead (b ∷ bs) } ∷ tokens true (at + 1) bs))

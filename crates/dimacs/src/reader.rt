@@ -171,7 +171,8 @@ fn judge_plain(text: &[u8], at: usize, variables: u32) -> Judged
     Judged::Literal(end)
 }
 
-// A token that begins with `0`: mostly that alone, which closes a clause.
+// A token that begins with `0`: mostly that alone, which closes a clause. What a zero means that leads more digits is for
+// `decimal` to say; today such a token is misformed.
 fn judge_zero(text: &[u8], at: usize, variables: u32) -> Judged
     requires { ⌜ (at < length (now text)) × (getD (now text) at 0 ≡ 48) × (variables ≤ 1000000) ⌝ }
     ensures { λ r. ⌜ TokenJudged variables (now (text .entry)) at r ⌝ }

@@ -15,14 +15,14 @@ ghost use Rattle.refusal.specs.Rules.{refusal, chain};
 ghost use Rattle.cnf.specs.Words.{zeros};
 ghost use Rattle.cnf.specs.Lent.{wordRules};
 ghost use Rattle.dimacs.specs.Text.{minus, wordText, body, headerLine};
-ghost use Rattle.dimacs.specs.Survey.{Cut, Surveyed};
+ghost use Rattle.dimacs.specs.Survey.{VariableCut, Surveyed};
 ghost use Rattle.dimacs.specs.Write.{WritePromise};
 
 // ---- the first pass over the words: checks and measures
 
-// The variable that a word names; of one below the largest limit, which is refused, the limit and 1.
+// The variable that a word names; of one below minus the largest limit, which is refused, the limit and 1.
 fn variable_cut(word: i32) -> u32
-    ensures { λ r. ⌜ Cut word r ⌝ }
+    ensures { λ r. ⌜ VariableCut word r ⌝ }
 {
     if word < -1000000 {
         return 1000001;

@@ -6,7 +6,8 @@ use native.Mathlib.Omega.{arith}
 use lib.ListN.{length}
 use borrow.Author.Needs.{needs}
 use Rattle.lists.proofs.BufferLaws.{then, then-room, first-room, wrote-as, written}
-use Rattle.cnf.proofs.LentLaws.{WellWords, words-well}
+use Rattle.cnf.specs.Lent.{WellWords}
+use Rattle.cnf.proofs.LentLaws.{words-well}
 use Rattle.dimacs.specs.Text.{body, headerLine, textOf}
 use Rattle.dimacs.proofs.WriteLaws.{write-short, write-done}
 use Rattle.dimacs.proofs.WriterLaws.{body-most, text-parts, text-length}
