@@ -2,8 +2,9 @@
 -- Assumes nothing.
 use mathlib.Core.Bool.{Bool, true, false, cond, not, _&&_}
 use mathlib.Core.List.{List, [], _∷_, _++_}
-use Prim.Native.Nat.{ℕ, zero, suc, _+_, _-_, _*_, _/_, _%_}
+use Prim.Native.Nat.{ℕ, zero, suc, _+_, _-_, _*_, _/_, _%_, min}
 use lib.Dec.{leb, ltb, eqb}
+use lib.ListN.{length}
 
 -- `0` to `9`
 unfoldable pub isDigit : ℕ → Bool
@@ -40,3 +41,11 @@ digitsWith (suc f) n = cond (ltb n 10) ((48 + n) ∷ []) (digitsWith f (n / 10) 
 -- the decimal of a number below 10 ^ 20
 unfoldable pub digits : ℕ → List ℕ
 digits n = digitsWith 19 n
+
+-- how many digits that are, counted up to 7
+abbrev pub shortWidth : ℕ → ℕ
+shortWidth n = min 7 (length (digits n))
+
+-- 1 where a number reaches a bound, and 0 where it does not
+abbrev pub reached : ℕ → ℕ → ℕ
+reached bound n = cond (leb bound n) 1 0

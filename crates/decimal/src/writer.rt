@@ -1,11 +1,10 @@
 // Writing the decimal of a number into a lent buffer, from a place on. Assumes nothing.
 ghost use mathlib.Core.Path.{_≡_};
-ghost use mathlib.Core.Bool.{cond};
-ghost use Prim.Native.Nat.{_+_, _≤_, _<_, min};
+ghost use Prim.Native.Nat.{_+_, _≤_, _<_};
 ghost use lib.Dec.{leb};
 ghost use lib.ListN.{length};
 ghost use Rattle.lists.specs.Buffer.{Wrote};
-ghost use Rattle.decimal.specs.Digits.{digits};
+ghost use Rattle.decimal.specs.Digits.{digits, shortWidth, reached};
 ghost use Rattle.decimal.specs.Bytes.{PutPromise};
 ghost use Rattle.decimal.specs.Writing.{pair, four};
 
@@ -13,14 +12,14 @@ ghost use Rattle.decimal.specs.Writing.{pair, four};
 
 // 1 where the number reaches the bound, 0 where it does not.
 pub fn at_least(n: u32, bound: u32) -> u32
-    ensures { λ r. ⌜ (r ≤ 1) × (r ≡ cond (leb bound n) 1 0) ⌝ }
+    ensures { λ r. ⌜ (r ≤ 1) × (r ≡ reached bound n) ⌝ }
 {
     if bound <= n { 1 } else { 0 }
 }
 
 // How many digits the decimal of a number below ten million has; 7 for the others.
 pub fn short_width(n: u32) -> u32
-    ensures { λ r. ⌜ r ≡ min 7 (length (digits n)) ⌝ }
+    ensures { λ r. ⌜ r ≡ shortWidth n ⌝ }
 {
     1
         + at_least(n, 10)

@@ -88,7 +88,6 @@ module _ (text : List ℕ) where
     pub before : (j : ℕ) → j < k → Good headerVariables (tokenBytes j)
 
   -- looked for in this order: 16 is asked only of a line that has the form, and the later ones only after such a header
-
   abbrev pub readTable : ℕ → List Row
   readTable room =
       row 17 (λ p. (p ≡ headerStart) × ((ds es rest : List ℕ) → HeaderLine (drop headerStart text) ds es rest → ⊥))
