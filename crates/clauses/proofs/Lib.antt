@@ -11,3 +11,4 @@ pub mod LiteralLaws
 pub mod SizeLaws
 pub mod Edition1
 pub mod Edition1Sizes
+pub mod WellListed

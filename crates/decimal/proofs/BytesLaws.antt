@@ -1,14 +1,14 @@
 -- Laws of bytes at a place of a text, compared byte by byte, and of bytes put into a lent buffer. Assumes nothing.
 use mathlib.Core.Path.{_≡_, refl, sym, ap, _∙_}
-use mathlib.Core.Bool.{Bool, true, false, _&&_, and-eq-true-iff, false≢true}
+use mathlib.Core.Bool.{Bool, true, false, cond, _&&_, and-eq-true-iff, false≢true}
 use mathlib.Core.List.{List, [], _∷_, _++_}
 use Prim.Native.Nat.{ℕ, suc, _+_, _≤_, _<_}
 use native.Mathlib.Nat.{add-zero}
 use native.Mathlib.Numerals.{add-one}
 use native.Mathlib.Omega.{arith}
-use lib.Dec.{eqb}
+use lib.Dec.{leb, eqb}
 use lib.ListN.{length, getD, drop, length-append, length-drop, drop-of-length-le}
-use lib.Seq.{sets, drop-cons}
+use lib.Seq.{sets, length-sets, drop-cons}
 use borrow.Author.Tests.{eqb-true, eq-eqb, ne-eqb, le-leb, lt-leb}
 use Rattle.lists.specs.Buffer.{Wrote}
 use Rattle.decimal.specs.Bytes.{startsWith, hasAt, putAt, PutPromise}
@@ -98,7 +98,18 @@ module _ (bytes : List ℕ) (at : ℕ) (before : List ℕ) where
   pub put-all : at + length bytes ≤ length before → {after : List ℕ} {r : ℕ} → Wrote before at bytes after r → PutPromise bytes at before (length bytes) after
   put-all h w = record { counts = refl; buffer = w .list ∙ sym (put-room h) }
 
-  -- what a caller that has room is told
+  -- the buffer keeps its length
+  pub put-length : {n : ℕ} {after : List ℕ} → PutPromise bytes at before n after → length after ≡ length before
+  put-length p = ap length (p .buffer) ∙ go (leb (at + length bytes) (length before))
+    where
+      go : (t : Bool) → length (cond t (sets before at bytes) before) ≡ length before
+      go true = length-sets before at bytes
+      go false = refl
+
+  -- what a caller that has no room is told, and one that has
+  pub put-kept : {n : ℕ} {after : List ℕ} → length before < at + length bytes → PutPromise bytes at before n after → after ≡ before
+  put-kept h p = p .buffer ∙ rw (lt-leb (at + length bytes) (length before) h)
+
   pub put-wrote : {n : ℕ} {after : List ℕ} → at + length bytes ≤ length before → PutPromise bytes at before n after → Wrote before at bytes after (at + n)
   put-wrote h p = record { list = p .buffer ∙ put-room h; next = ap (λ (k : ℕ). at + k) (p .counts) }
 

@@ -1,13 +1,13 @@
 -- Laws of the decimal of a number: its digits step by step, how many they are, and that it is a decimal which says the number.
 -- Assumes nothing.
 use mathlib.Core.Path.{_≡_, refl, sym, ap, _∙_}
-use mathlib.Core.Bool.{Bool, true, false, not, _&&_, and-eq-true-iff}
+use mathlib.Core.Bool.{Bool, true, false, not, cond, _&&_, and-eq-true-iff}
 use mathlib.Core.List.{List, [], _∷_, _++_}
 use Prim.Native.Nat.{ℕ, zero, suc, _+_, _-_, _*_, _/_, _%_, _^_, _≤_, _<_}
 use native.Mathlib.Nat.{pow-suc}
 use native.Mathlib.Omega.{arith}
 use native.Mathlib.Decide.{decLt}
-use lib.Dec.{leb, eqb}
+use lib.Dec.{leb, ltb, eqb}
 use lib.ListN.{length, length-append, getD, List·getD-append}
 use borrow.Author.Tests.{lt-ltb, le-ltb, le-leb, ne-eqb, leb-true}
 use Rattle.lists.specs.Every.{Every}
@@ -59,6 +59,20 @@ length-pos n h = go (decLt n 10)
     go : Dec (n < 10) → 1 ≤ length (digits n)
     go (yes l) = omega (arith, length-small n l)
     go (no g) = omega (arith, length-step n (omega arith) h)
+
+-- of any number
+with-most : (f n : ℕ) → length (digitsWith f n) ≤ suc f
+unfolding digitsWith
+with-most zero n = omega arith
+with-most (suc f) n = go (ltb n 10) (with-most f (n / 10))
+  where
+    go : (t : Bool) → length (digitsWith f (n / 10)) ≤ suc f → length (cond t ((48 + n) ∷ []) (digitsWith f (n / 10) ++ ((48 + n % 10) ∷ []))) ≤ suc (suc f)
+    go true h = omega arith
+    go false h = omega (arith, length-append (digitsWith f (n / 10)) ((48 + n % 10) ∷ []))
+
+pub digits-most : (n : ℕ) → length (digits n) ≤ 20
+unfolding digits
+digits-most n = with-most 19 n
 
 -- ---- the number that they say
 

@@ -4,3 +4,4 @@ pub mod RunLaws
 pub mod PositiveLaws
 pub mod BytesLaws
 pub mod WriterLaws
+pub mod FieldLaws

@@ -5,6 +5,7 @@ use Prim.Native.Nat.{ℕ, _+_, min}
 use lib.Dec.{leb, ltb, eqb}
 use lib.ListN.{length, getD, drop}
 use Rattle.decimal.specs.Digits.{isDigit, isDecimal, value}
+use Rattle.decimal.specs.Bytes.{hasAt}
 use Rattle.decimal.specs.declared.Reading.{Reading}
 
 -- the longest front of a text that is digits
@@ -21,7 +22,11 @@ cut n = min 10000000000 n
 abbrev pub readingAt : List ℕ → ℕ → Reading
 readingAt text at = record { good = isDecimal (run (drop at text)); value = cut (value (run (drop at text))); end = at + length (run (drop at text)) }
 
--- the same where they are a decimal of a number other than 0; otherwise none
+-- digits that were read are a decimal, and the byte b follows them
+abbrev pub fieldAt : List ℕ → Reading → ℕ → Bool
+fieldAt text read b = read .good && hasAt text (read .end) (b ∷ [])
+
+-- what is read where they are a decimal of a number other than 0; otherwise none
 abbrev pub positiveAt : List ℕ → ℕ → Reading
 positiveAt text at = cond (readingAt text at .good && not (eqb (readingAt text at .value) 0)) (readingAt text at) (record { good = false; value = 0; end = at })
 

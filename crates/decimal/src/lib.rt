@@ -6,6 +6,7 @@ mod writer;
 
 pub use fixed::has;
 pub use fixed::put;
+pub use reader::is_field;
 pub use reader::read;
 pub use reader::read_positive;
 pub use writer::at_least;

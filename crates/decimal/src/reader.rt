@@ -1,10 +1,11 @@
 // Reading a decimal at a place of a text. Assumes nothing.
 use crate::Reading;
+use crate::fixed::has;
 ghost use mathlib.Core.Path.{_≡_};
 ghost use Prim.Native.Nat.{_+_, _-_, _*_, _≤_, _<_};
 ghost use lib.ListN.{length};
 ghost use Rattle.decimal.specs.Digits.{isDigit};
-ghost use Rattle.decimal.specs.Reading.{cut, readingAt, leadsAt, positiveAt};
+ghost use Rattle.decimal.specs.Reading.{cut, readingAt, fieldAt, leadsAt, positiveAt};
 
 // Digits that were read, whether they are a decimal or not.
 struct Digits {
@@ -72,6 +73,16 @@ pub fn read(text: &[u8], at: usize) -> Reading
         value: digits.value,
         end,
     }
+}
+
+// Whether digits that were read are a decimal, with the byte `last` after them.
+pub fn is_field(text: &[u8], read: Reading, last: u8) -> bool
+    ensures { λ r. ⌜ r ≡ fieldAt (now (text .entry)) read last ⌝ }
+{
+    if read.good {
+        return has(text, read.end, &[last]);
+    }
+    false
 }
 
 // ---- numbers other than 0, in long texts

@@ -30,14 +30,6 @@ pub fn short_width(n: u32) -> u32
         + at_least(n, 1000000)
 }
 
-// How many digits the decimal of a number has.
-fn width(n: u32) -> usize
-    ensures { λ r. ⌜ r ≡ length (digits n) ⌝ }
-{
-    let more = at_least(n, 10000000) + at_least(n, 100000000) + at_least(n, 1000000000);
-    (short_width(n) + more) as usize
-}
-
 // Whether `count` bytes fit from `at` on.
 fn has_room(size: usize, at: usize, count: usize) -> bool
     ensures { λ r. ⌜ r ≡ leb (at + count) size ⌝ }
@@ -50,8 +42,21 @@ fn has_room(size: usize, at: usize, count: usize) -> bool
 
 // ---- digit by digit, for a number now and then
 
+// How many digits the decimal of a number has.
+fn width(n: u64) -> usize
+    ensures { λ r. ⌜ r ≡ length (digits n) ⌝ }
+{
+    let mut rest = n;
+    let mut count: usize = 1;
+    while rest >= 10 {
+        rest = rest / 10;
+        count += 1;
+    }
+    count
+}
+
 // Stores the digits of n, of which there are `count`, from the last on.
-fn store(n: u32, count: usize, out: &mut [u8], at: usize)
+fn store(n: u64, count: usize, out: &mut [u8], at: usize)
     requires { ⌜ (count ≡ length (digits n)) × (at + count ≤ length (now out)) ⌝ }
     ensures { λ _. ⌜ Wrote (now (out .entry)) at (digits n) (now (out .exit)) (at + count) ⌝ }
 {
@@ -66,7 +71,7 @@ fn store(n: u32, count: usize, out: &mut [u8], at: usize)
 }
 
 // Puts the decimal of n into `out` from `at` on, if there is room for it, and answers how long it is.
-pub fn write(n: u32, out: &mut [u8], at: usize) -> usize
+pub fn write(n: u64, out: &mut [u8], at: usize) -> usize
     ensures { λ r. ⌜ PutPromise (digits n) at (now (out .entry)) r (now (out .exit)) ⌝ }
 {
     let count = width(n);
@@ -153,5 +158,5 @@ pub fn write_often(n: u32, out: &mut [u8], at: usize) -> usize
     if has_room(out.len(), at, 10) {
         return put_digits(n, out, at);
     }
-    write(n, out, at)
+    write(n as u64, out, at)
 }

@@ -1,5 +1,5 @@
 -- How `write_text` comes to its answer, and what its answer tells. Assumes nothing.
-use mathlib.Core.Path.{_≡_, refl, sym, ap}
+use mathlib.Core.Path.{_≡_, refl, sym, ap, _∙_}
 use mathlib.Core.Logic.{_↔_}
 use mathlib.Core.List.{List, [], _∷_}
 use Prim.Native.Nat.{ℕ, _≤_, _<_}
@@ -20,7 +20,7 @@ use Rattle.refusal.proofs.AnsweredLaws.{by-refusal, by-result, first-refuse, go
 use Rattle.cnf.specs.Lent.{wordRules, wordTable, WellWords}
 use Rattle.cnf.proofs.LentLaws.{word-faithful, words-well, well-words}
 use Rattle.dimacs.specs.Text.{textOf}
-use Rattle.dimacs.specs.Write.{writeRules, writeTable, writtenSaid, WritePromise, written-said-once}
+use Rattle.dimacs.specs.Write.{writeRules, writeTable, writtenSaid, WrittenBy, WritePromise, written-said-once}
 use Rattle.dimacs.specs.declared.TextWritten.the-variants.{Written, Refused}
 use Rattle.dimacs.specs.declared.WriteAnswer.{WriteAnswer}
 
@@ -51,6 +51,12 @@ module _ (v : ℕ) (ws : List ℤ) where
     write-done q h e b =
         goes-on writtenSaid _ _ before (wordRules v ws) (roomRules (length before)) q
         (by-result writtenSaid _ _ before (rw e) (long-enough (length (textOf v ws)) (length before) h) b)
+
+    -- the words are well: only the room decides
+    pub write-well : WellWords v ws → {answer : WriteAnswer} {after : List ℕ} → WritePromise v ws before answer after → WrittenBy (roomRules (length before)) v ws before answer after
+    write-well w {answer} {after} p =
+        let q : chain (writeRules v ws (length before)) ≡ chain (roomRules (length before)) = sym (passes (wordRules v ws) (roomRules (length before)) (sym (well-words v ws w)) refl refl) in
+        record { says = p .says ∙ rw q; buffer = p .buffer ∙ rw q }
 
     -- ---- what an answer tells
 

@@ -1,6 +1,6 @@
 -- How the writer's functions come to what they promise: its first pass over the words, the length of the text, and a word's
 -- text byte by byte. Assumes nothing.
-use mathlib.Core.Path.{_≡_, sym, ap, _∙_}
+use mathlib.Core.Path.{_≡_, refl, sym, ap, _∙_}
 use mathlib.Core.Logic.{_⊎_, inl, inr}
 use mathlib.Core.Bool.{true, false, cond, not}
 use mathlib.Core.List.{List, [], _∷_, _++_, append-assoc}
@@ -126,8 +126,11 @@ module _ {v : ℕ} {ws : List ℤ} (w : WellWords v ws) where
   pub survey-size : {clauses past size : ℕ} → Surveyed v ws (length ws) clauses past size → size ≡ length (body ws)
   survey-size s = s .bytes ∙ body-size
 
+  body-nine : length (body ws) ≤ 9 * length ws
+  body-nine = omega (arith, body-size, sum-most (λ k. wordSize (word ws k)) 9 (length ws) (λ k _. size-most (word ws k)))
+
   pub body-most : length (body ws) ≤ 900000000
-  body-most = omega (arith, well-counts, body-size, sum-most (λ k. wordSize (word ws k)) 9 (length ws) (λ k _. size-most (word ws k)))
+  body-most = omega (arith, well-counts, body-nine)
 
 header-length : (v clauses : ℕ) → length (headerLine v clauses) ≡ 8 + length (digits v) + length (digits clauses)
 unfolding headerLine
@@ -144,6 +147,10 @@ text-length {v} {ws} {clauses} w e p q s =
     let c = well-counts w in
     omega (arith, short v (omega (arith, c .0)), short clauses (omega (arith, c .1)), header-length v clauses, length-append (headerLine v clauses) (body ws), ap length (text-parts v ws e))
 
+-- nine bytes for each word, and the header's
+pub text-most : {v : ℕ} {ws : List ℤ} → WellWords v ws → length (textOf v ws) ≤ 22 + 9 * length ws
+text-most {v} {ws} w = omega (arith, body-nine w, text-length {ws = ws} w refl refl refl refl)
+
 -- ---- a last byte
 
 -- ws is written from `at` on once the byte b is stored at r: there is room for it, and l′ is as long as l
@@ -152,7 +159,7 @@ pub record LastByte (l : List ℕ) (at : ℕ) (ws l′ : List ℕ) (r b : ℕ) :
   pub same : length l′ ≡ length l
   pub wrote : Wrote l at ws (set l′ r b) (r + 1)
 
-last-byte : {l xs l′ : List ℕ} {at r : ℕ} (b : ℕ) → Wrote l at xs l′ r → r < length l → LastByte l at (xs ++ (b ∷ [])) l′ r b
+pub last-byte : {l xs l′ : List ℕ} {at r : ℕ} (b : ℕ) → Wrote l at xs l′ r → r < length l → LastByte l at (xs ++ (b ∷ [])) l′ r b
 last-byte {l′} {r} b w h = record { inside = omega (arith, kept w); same = kept w; wrote = then w (put l′ r b) }
 
 -- ---- a word's text

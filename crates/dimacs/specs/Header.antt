@@ -7,7 +7,7 @@ use lib.Dec.{eqb}
 use lib.ListN.{length}
 use Rattle.decimal.specs.Digits.{isDecimal}
 use Rattle.decimal.specs.Bytes.{hasAt}
-use Rattle.decimal.specs.Reading.{readingAt}
+use Rattle.decimal.specs.Reading.{readingAt, fieldAt}
 use Rattle.decimal.specs.declared.Reading.{Reading}
 use Rattle.dimacs.specs.Text.{head, space, lineFeed}
 
@@ -26,10 +26,6 @@ pub record HeaderLine (s ds es rest : List ℕ) : Type 0 where
   pub clauses : isDecimal es ≡ true
 
 -- ---- the same as it is read
-
--- digits that were read are a decimal, and the byte b follows them
-abbrev pub fieldAt : List ℕ → Reading → ℕ → Bool
-fieldAt text read b = read .good && hasAt text (read .end) (b ∷ [])
 
 module _ (text : List ℕ) (at : ℕ) where
   -- V's decimal, and the clause count's

@@ -3,7 +3,6 @@ use crate::HEAD;
 use crate::ReadAnswer;
 use crate::TextRead;
 use cnf::Tally;
-use decimal::Reading;
 use refusal::Refusal;
 use refusal::Verdict;
 ghost use mathlib.Core.Path.{_≡_};
@@ -15,7 +14,7 @@ ghost use lib.ListN.{length, getD, drop};
 ghost use Rattle.lists.specs.Buffer.{over};
 ghost use Rattle.refusal.specs.Rules.{refusal, chain};
 ghost use Rattle.dimacs.specs.Tokens.{isGap, lead, ended, wordOf, Good, wordsOf};
-ghost use Rattle.dimacs.specs.Header.{comments, fieldAt, isHeader, HeaderRead};
+ghost use Rattle.dimacs.specs.Header.{comments, isHeader, HeaderRead};
 ghost use Rattle.dimacs.specs.Rules.{tokenRules, endRules, tokensFrom};
 ghost use Rattle.dimacs.specs.Passes.{TokenJudged, DigitsJudged, PassedOver};
 ghost use Rattle.dimacs.specs.Read.{ReadBy, ReadPromise};
@@ -63,16 +62,6 @@ fn no_header() -> Header
     }
 }
 
-// Whether digits that were read are a decimal, with the byte `last` after them.
-fn is_field(text: &[u8], read: Reading, last: u8) -> bool
-    ensures { λ r. ⌜ r ≡ fieldAt (now (text .entry)) read last ⌝ }
-{
-    if read.good {
-        return decimal::has(text, read.end, &[last]);
-    }
-    false
-}
-
 fn read_header(text: &[u8], at: usize) -> Header
     ensures { λ r. ⌜ r .formed ≡ isHeader (now (text .entry)) at ⌝ }
     ensures { λ r. ⌜ (r .formed ≡ true → HeaderRead (now (text .entry)) at (r .variables) (r .clauses) (r .next)) ⌝ }
@@ -81,11 +70,11 @@ fn read_header(text: &[u8], at: usize) -> Header
         return no_header();
     }
     let variables = decimal::read(text, at + 6);
-    if !is_field(text, variables, b' ') {
+    if !decimal::is_field(text, variables, b' ') {
         return no_header();
     }
     let clauses = decimal::read(text, variables.end + 1);
-    if !is_field(text, clauses, b'\n') {
+    if !decimal::is_field(text, clauses, b'\n') {
         return no_header();
     }
     Header {

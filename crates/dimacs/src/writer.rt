@@ -121,10 +121,10 @@ fn put_header(variables: u32, clauses: u32, out: &mut [u8]) -> usize
     ensures { λ r. ⌜ Wrote (now (out .entry)) 0 (headerLine variables clauses) (now (out .exit)) r ⌝ }
 {
     let a = decimal::put(&HEAD, out, 0);
-    let b = a + decimal::write(variables, out, a);
+    let b = a + decimal::write(variables as u64, out, a);
     out[b] = b' ';
     let c = b + 1;
-    let d = c + decimal::write(clauses, out, c);
+    let d = c + decimal::write(clauses as u64, out, c);
     out[d] = b'\n';
     d + 1
 }

@@ -36,7 +36,7 @@ own-tally d t r e q =
     tally-same _ _ _ _ _ _ (s .words ∙ sym (words-by-pairs d)) (s .clauses ∙ sym (clauses-by-pairs d)) (s .variables ∙ sym (last-variable d))
 
 module _ (e : Edition) (d : Lent) where
-  encode-faithful : (room : ℕ) → Faithful (encodeRules e d room) (encodeTable e d room)
+  pub encode-faithful : (room : ℕ) → Faithful (encodeRules e d room) (encodeTable e d room)
   unfolding encodeRules
   encode-faithful room = faithful-append (checkRules d) (roomRule (needed e d) room ∷ []) (checkTable d) (roomRow (needed e d) room ∷ []) (check-faithful d) (λ _. room-faithful (needed e d) room)
 

@@ -10,7 +10,7 @@ use native.Mathlib.Omega.{arith}
 use lib.Dec.{ltb, eqb}
 use borrow.Author.Tests.{ltb-true, ltb-false, eqb-true, eqb-false, ne-eqb, not-true, not-false}
 use Rattle.lists.specs.Upto.{sumTo, countTo, lastTo}
-use Rattle.lists.specs.First.{foundIf, orFound, first, sole, FirstFailing}
+use Rattle.lists.specs.First.{foundIf, orFound, countedFrom, first, sole, FirstFailing}
 use Rattle.lists.specs.declared.Found.{Found}
 use Rattle.lists.specs.declared.Found.the-variants.{Nothing, At}
 use Rattle.lists.proofs.UptoLaws.{at-most-one, last-or-below, below-or-not, decide, is-false, sum-more, sum-most, sum-room, sum-stretch, sum-same, last-is, up-to-last, is-last}
@@ -259,3 +259,21 @@ tests-equal = tests-equal-at 0
 -- one test of a buffer's length against the length needed, which is the place
 pub tests-room : (room needed : ℕ) → Tests (foundIf (ltb room needed) needed) (λ p. (p ≡ needed) × (needed ≤ room → ⊥)) (needed ≤ room)
 tests-room room needed = tests-at needed (ltb room needed) (needed ≤ room) (λ e. ltb-false room needed e) (λ e h. omega (arith, ltb-true room needed e))
+
+-- a search that counted from m on
+pub tests-from : (m : ℕ) (found : Found) {Missing : ℕ → Type 0} {Well : Type 0} → Tests found Missing Well → Tests (countedFrom m found) (λ p. (k : ℕ) × (p ≡ m + k) × Missing k) Well
+tests-from m Nothing t = record {
+  at = λ p. ((λ e. absurd (found-one Nothing refl e)), (λ w. absurd (found-one Nothing refl (t .at (w .0) .1 (w .2)))));
+  none = t .none;
+}
+tests-from m (At q) t =
+    record {
+      at = λ p. ((λ e. (q, from e, t .at q .0 refl)), (λ w. ap At (ap (λ (k : ℕ). m + k) (same (t .at (w .0) .1 (w .2))) ∙ sym (w .1))));
+      none = ((λ e. absurd (found-one (At (m + q)) e refl)), (λ h. absurd (found-one (At q) (t .none .1 h) refl)));
+    }
+  where
+    from : {p : ℕ} → At (m + q) ≡ At p → p ≡ m + q
+    from e = cc
+
+    same : {k : ℕ} → At q ≡ At k → q ≡ k
+    same e = cc

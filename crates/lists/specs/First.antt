@@ -1,6 +1,6 @@
 -- The first index at which a test holds, the only one, and what it is to be the least of some indices. Assumes nothing.
 use mathlib.Core.Bool.{Bool, true, false}
-use Prim.Native.Nat.{ℕ, zero, suc, _<_}
+use Prim.Native.Nat.{ℕ, zero, suc, _+_, _<_}
 use lib.Dec.{eqb}
 use Rattle.lists.specs.Upto.{countTo, lastTo}
 use Rattle.lists.specs.declared.Found.{Found}
@@ -15,6 +15,11 @@ foundIf false k = Nothing
 abbrev pub orFound : Found → Found → Found
 orFound (At k) g = At k
 orFound Nothing g = g
+
+-- what a search found that counted from m on
+abbrev pub countedFrom : ℕ → Found → Found
+countedFrom m (At k) = At (m + k)
+countedFrom m Nothing = Nothing
 
 -- the first index below n at which the test holds
 unfoldable pub first : (ℕ → Bool) → ℕ → Found

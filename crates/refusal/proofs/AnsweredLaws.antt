@@ -7,13 +7,13 @@ use lib.Dec.{T}
 use Rattle.refusal.specs.Rules.{Rule, chain}
 use Rattle.refusal.specs.Said.{Said, refused, result, saying, leaving}
 use Rattle.refusal.specs.Answered.{AnsweredBy}
-use Rattle.refusal.specs.Table.{Row, numbers, ExactlyWhen}
+use Rattle.refusal.specs.Table.{Row, numbers, ExactlyWhen, ExactlyInTurn}
 use Rattle.refusal.specs.declared.Refusal.{Refusal}
 use Rattle.refusal.specs.declared.Verdict.{Verdict}
 use Rattle.refusal.specs.declared.Verdict.the-variants.{Passed, Refused}
 use Rattle.refusal.proofs.RulesLaws.{refuses, passes}
 use Rattle.refusal.proofs.SaidLaws.{refused-as, said-passed}
-use Rattle.refusal.proofs.TableLaws.{eachOnce, Faithful, exactly-when}
+use Rattle.refusal.proofs.TableLaws.{eachOnce, Faithful, exactly-when, exactly-in-turn}
 
 -- ---- how it comes to its answer
 
@@ -43,6 +43,8 @@ module _ {A B : Type 0} (said : A → Said) (values : List ℕ) (written before 
 pub record Told {A B : Type 0} (said : A → Said) (no : Refusal → A) (rules : List Rule) (values : List ℕ) (written before : B) (answer : A) (after : B) : Type 1 where
   -- where the rules compute a table: each number is given exactly when its row is due and none before it is
   pub told-when : (table : List Row) → Faithful rules table → T (eachOnce (numbers table)) → ExactlyWhen table (λ r. answer ≡ no r)
+  -- or it is the first row that is due, where a number stands in several
+  pub told-in-turn : (table : List Row) → Faithful rules table → ExactlyInTurn table (λ r. answer ≡ no r)
   -- a refusal keeps the buffer
   pub told-keeps : (r : Refusal) → answer ≡ no r → after ≡ before
   -- an answer that says values is given exactly when the rules pass and these are the result's
@@ -56,6 +58,7 @@ module _ {A B : Type 0} (said : A → Said) (once : (a b : A) → said a ≡ sai
   told {rules} {v} {vs} {answer = answer} promise =
       record {
         told-when = λ table f t. exactly-when rules table f t refused-exactly;
+        told-in-turn = λ table f. exactly-in-turn rules table f refused-exactly;
         told-keeps = λ r q. promise .buffer ∙ rw (refused-exactly r .0 q);
         told-result = λ given u us e. (
           (λ q. let p = said-passed (chain rules) u us v vs (sym (ap said q ∙ e) ∙ promise .says) in (p, ap said (sym q) ∙ promise .says ∙ rw p)),

@@ -2,7 +2,7 @@
 use mathlib.Core.Path.{_≡_, refl, sym, _∙_, ap, subst}
 use mathlib.Core.Bool.{Bool, true, false, not, cond, _&&_}
 use mathlib.Core.List.{List, [], _∷_, _++_, List·Memᴰ, List·Memᴰ·head, List·Memᴰ·tail, List·Memᴰ·not-nil, List·Memᴰ·cases-cons}
-use mathlib.Core.Logic.{⊎-elim, _↔_}
+use mathlib.Core.Logic.{_⊎_, inl, inr, ⊎-elim, _↔_}
 use Prim.Native.Nat.{ℕ}
 use native.Mathlib.Omega.{arith}
 use lib.Dec.{T, eqb}
@@ -11,7 +11,7 @@ use Rattle.lists.specs.declared.Found.{Found}
 use Rattle.lists.specs.declared.Found.the-variants.{Nothing, At}
 use Rattle.lists.proofs.FirstLaws.{found-one}
 use Rattle.refusal.specs.Rules.{Rule, rule, refusal, ruled, chain}
-use Rattle.refusal.specs.Table.{Row, row, numbers, before, either, DueIn, NoneBefore, ExactlyWhen}
+use Rattle.refusal.specs.Table.{Row, row, numbers, before, either, DueIn, NoneBefore, ExactlyWhen, GivenIn, NoneDue, ExactlyInTurn}
 use Rattle.refusal.specs.declared.Refusal.{Refusal}
 use Rattle.refusal.specs.declared.Verdict.{Verdict}
 use Rattle.refusal.specs.declared.Verdict.the-variants.{Passed, Refused}
@@ -185,5 +185,49 @@ module _ (rules : List Rule) (table : List Row) (f : Faithful rules table) (t : 
         not-refused = (
           (λ h n p d. none-due rules table f (passes-or-refuses (chain rules) (λ r e. h r (g r .1 e))) n p d),
           (λ h r e. never-both (chain rules) (all-pass rules table f t h) (g r .0 e)),
+        );
+      }
+
+-- ---- row by row
+
+given : (rules : List Rule) (table : List Row) → Faithful rules table → (n p : ℕ) → chain rules ≡ Refused (refusal n p) → GivenIn table n p
+unfolding chain
+given [] [] f n p e = let z : _≡_ {A = ℕ} 0 1 = cc in absurd (omega arith)
+given [] (r ∷ table) f n p e = absurd f
+given (r ∷ rules) [] f n p e = absurd f
+given (rule k (At q) ∷ rules) (row m due ∷ table) f n p e = let w = parts k q n p e in inl (sym (w .0) ∙ f .0, f .1 p .0 (ap At (w .1)))
+given (rule k Nothing ∷ rules) (row m due ∷ table) f n p e = inr ((λ q d. found-one Nothing refl (f .1 q .1 d)), given rules table (f .2 refl) n p e)
+
+gives : (rules : List Rule) (table : List Row) → Faithful rules table → (n p : ℕ) → GivenIn table n p → chain rules ≡ Refused (refusal n p)
+unfolding chain
+gives [] [] f n p g = absurd g
+gives [] (r ∷ table) f n p g = absurd f
+gives (r ∷ rules) [] f n p g = absurd f
+gives (rule k found ∷ rules) (row m due ∷ table) f n p (inl w) = rw (f .1 p .1 (w .1)) (ap (λ (j : ℕ). Refused (refusal j p)) (f .0 ∙ sym (w .0)))
+gives (rule k found ∷ rules) (row m due ∷ table) f n p (inr w) = let z = nowhere found (λ q d. w .0 q (f .1 q .0 d)) in rw z (gives rules table (f .2 z) n p (w .1))
+
+pass-none : (rules : List Rule) (table : List Row) → Faithful rules table → chain rules ≡ Passed → NoneDue table
+unfolding chain
+pass-none [] [] f e = tt
+pass-none [] (r ∷ table) f e = absurd f
+pass-none (r ∷ rules) [] f e = absurd f
+pass-none (rule k (At q) ∷ rules) (row m due ∷ table) f e = let z : _≡_ {A = ℕ} 0 1 = cc in absurd (omega arith)
+pass-none (rule k Nothing ∷ rules) (row m due ∷ table) f e = ((λ q d. found-one Nothing refl (f .1 q .1 d)), pass-none rules table (f .2 refl) e)
+
+none-pass : (rules : List Rule) (table : List Row) → Faithful rules table → NoneDue table → chain rules ≡ Passed
+unfolding chain
+none-pass [] [] f g = refl
+none-pass [] (r ∷ table) f g = absurd f
+none-pass (r ∷ rules) [] f g = absurd f
+none-pass (rule k found ∷ rules) (row m due ∷ table) f g = let z = nowhere found (λ q d. g .0 q (f .1 q .0 d)) in rw z (none-pass rules table (f .2 z) (g .1))
+
+module _ (rules : List Rule) (table : List Row) (f : Faithful rules table) where
+  pub exactly-in-turn : {Is : Refusal → Type 0} → ((r : Refusal) → Is r ↔ (chain rules ≡ Refused r)) → ExactlyInTurn table Is
+  exactly-in-turn g =
+      record {
+        refused = λ n p. ((λ e. given rules table f n p (g (refusal n p) .0 e)), (λ h. g (refusal n p) .1 (gives rules table f n p h)));
+        not-refused = (
+          (λ h. pass-none rules table f (passes-or-refuses (chain rules) (λ r e. h r (g r .1 e)))),
+          (λ h r e. never-both (chain rules) (none-pass rules table f h) (g r .0 e)),
         );
       }

@@ -3,7 +3,7 @@
 use mathlib.Core.Path.{_≡_}
 use mathlib.Core.Bool.{Bool, true, false, cond}
 use mathlib.Core.List.{List, [], _∷_, List·Memᴰ}
-use mathlib.Core.Logic.{_↔_}
+use mathlib.Core.Logic.{_⊎_, _↔_}
 use Prim.Native.Nat.{ℕ, _≤_}
 use lib.Dec.{eqb}
 use Rattle.refusal.specs.Rules.{refusal}
@@ -44,3 +44,22 @@ NoneBefore table n = (m q : ℕ) → List·Memᴰ m (before n (numbers table)) �
 pub record ExactlyWhen (table : List Row) (Is : Refusal → Type 0) : Type 0 where
   pub refused : (n p : ℕ) → Is (refusal n p) ↔ (DueIn table n p × NoneBefore table n)
   pub not-refused : ((r : Refusal) → Is r → ⊥) ↔ ((n p : ℕ) → DueIn table n p → ⊥)
+
+-- ---- a table whose rows are asked one after the other, and in which a number may stand more than once
+
+-- number n is given at place p: the first row has that number and is due there; or it is due nowhere, and so it is by a
+-- later row
+abbrev pub GivenIn : List Row → ℕ → ℕ → Type 0
+GivenIn [] n p = ⊥
+GivenIn (row m due ∷ rows) n p = ((n ≡ m) × due p) ⊎ (((q : ℕ) → due q → ⊥) × GivenIn rows n p)
+
+-- no row is due anywhere
+abbrev pub NoneDue : List Row → Type 0
+NoneDue [] = Unit {0}
+NoneDue (row m due ∷ rows) = ((q : ℕ) → due q → ⊥) × NoneDue rows
+
+-- `Is r` says that the answer is the refusal r: exactly when the table gives it; and nothing is refused exactly when no row
+-- is due
+pub record ExactlyInTurn (table : List Row) (Is : Refusal → Type 0) : Type 0 where
+  pub refused : (n p : ℕ) → Is (refusal n p) ↔ GivenIn table n p
+  pub not-refused : ((r : Refusal) → Is r → ⊥) ↔ NoneDue table

@@ -1,29 +1,29 @@
--- `decimal::writer::width` meets its contract: a u32 has at most ten digits. Assumes nothing.
-use Prim.Native.Nat.{_^_, _<_}
+-- `decimal::writer::width` meets its contract: each turn takes the last digit off, and counts it. Assumes nothing.
+use mathlib.Core.Path.{_≡_}
+use Prim.Native.Nat.{_+_, _≤_}
 use native.Mathlib.Omega.{arith}
+use lib.ListN.{length}
 use borrow.Author.Needs.{needs}
-use Rattle.decimal.proofs.WriterLaws.{length-most, width-more}
+use Rattle.decimal.specs.Digits.{digits}
+use Rattle.decimal.proofs.DigitsLaws.{length-small, length-step}
+use Rattle.decimal.proofs.WriterLaws.{length-most}
 use Rattle.decimal.proofs.writer.width.Statement.{statement}
 use Rattle.decimal.proofs.writer.width.Tie as tie
+
+abbrev Inv-loop : tie.InvT-loop
+Inv-loop n rest₀ count₀ rest count = (rest ≤ n) × (count + length (digits rest) ≡ length (digits n) + 1)
+
+abbrev μ-loop : tie.MeasureT-loop
+μ-loop n rest₀ count₀ rest count = rest
 
 pub width-spec : {M : Type 1} → statement M
 width-spec =
     tie.close
     (tie.spec
-    (λ c κs. search needs)
-    (λ c κs. search needs)
+    Inv-loop
+    μ-loop
     (λ c. search needs)
-    (λ c κs. search needs)
+    (λ c. record { fits = omega (arith, length-most 19 (c .before .before .args .n) (omega arith) (omega arith)) })
     (λ c. search needs)
-    (λ c κs. search needs)
-    (λ c. search needs)
-    (λ c. search needs)
-    (λ c.
-    let c₃ = c .before in
-    let c₂ = c₃ .before in
-    let c₁ = c₂ .before in
-    let n = c₁ .before .args .n in
-    let h : n < 10 ^ 20 = omega arith in
-    let s₁ = width-more n h 6 (c .short-width .ensures) (c₁ .at-least .ensures .1) in
-    let s₂ = width-more n h 7 s₁ (c₂ .at-least2 .ensures .1) in
-    omega (arith, length-most 9 n (omega arith) h, width-more n h 8 s₂ (c₃ .at-least3 .ensures .1))))
+    (λ c. (omega arith, omega (arith, length-step (c .before .loop .rest) (c .loop-test .taken) (omega arith))))
+    (λ c. omega (arith, length-small (c .before .loop .rest) (c .loop-test .left))))

@@ -8,12 +8,13 @@ use lib.ListN.{length}
 use borrow.Author.Needs.{needs}
 use borrow.Author.Tests.{not-true, not-false}
 use Rattle.decimal.specs.Bytes.{hasAt}
-use Rattle.decimal.specs.Reading.{readingAt}
+use Rattle.decimal.specs.Reading.{readingAt, fieldAt}
 use Rattle.decimal.specs.declared.Reading.{Reading}
 use Rattle.decimal.proofs.BytesLaws.{has-inside}
+use Rattle.decimal.proofs.FieldLaws.{field-inside}
 use Rattle.dimacs.specs.Text.{head, space, lineFeed}
-use Rattle.dimacs.specs.Header.{fieldAt, variablesAt, clausesAt}
-use Rattle.dimacs.proofs.HeaderLaws.{no-head, no-variables, by-clauses, field-inside}
+use Rattle.dimacs.specs.Header.{variablesAt, clausesAt}
+use Rattle.dimacs.proofs.HeaderLaws.{no-head, no-variables, by-clauses}
 use Rattle.dimacs.proofs.reader.read_header.Statement.{statement}
 use Rattle.dimacs.proofs.reader.read_header.Tie as tie
 

@@ -1,7 +1,7 @@
--- `dimacs::reader::is_field` meets its contract. Assumes nothing.
+-- `decimal::reader::is_field` meets its contract. Assumes nothing.
 use borrow.Author.Needs.{needs}
-use Rattle.dimacs.proofs.reader.is_field.Statement.{statement}
-use Rattle.dimacs.proofs.reader.is_field.Tie as tie
+use Rattle.decimal.proofs.reader.is_field.Statement.{statement}
+use Rattle.decimal.proofs.reader.is_field.Tie as tie
 
 pub is-field-spec : {M : Type 1} → statement M
 is-field-spec =
