@@ -1,10 +1,10 @@
--- The small table of samples: what the definitions say of a few diagrams and models. Assumes nothing.
+-- The small table of samples: a row is what a sample puts in, and the answer that the scope gives. Assumes nothing.
 use mathlib.Core.Path.{_≡_}
 use mathlib.Core.Bool.{Bool, true, false}
 use mathlib.Core.List.{List, [], _∷_}
 use Prim.Native.Nat.{ℕ}
 use lib.IntN.{ℤ, pos}
-use lib.ListN.{length, replicate}
+use lib.ListN.{length}
 use Rattle.refusal.specs.Rules.{refusal, chain}
 use Rattle.refusal.specs.declared.Verdict.the-variants.{Passed, Refused}
 use Rattle.cnf.specs.Clause.{plain, negated, words}
@@ -12,30 +12,28 @@ use Rattle.diagram.specs.Lent.{Lent, lent, options}
 use Rattle.diagram.specs.Rules.{checkRules}
 use Rattle.judge.specs.Promise.{allowsTest}
 use Rattle.clauses.specs.Clauses.{edition1, lastVariable, clauses}
+use Rattle.encoder.specs.Promise.{encodeRules}
 use Rattle.model.specs.Rules.{buildOf, modelRules}
 
 pub data Sample : Type 0 where
+  -- in a buffer of just so many words `encode` refuses nothing, and answers that there are so many words, so many clauses, and V
+  encodes : Lent → ℕ → ℕ → ℕ → Sample
   -- the diagram's words are these
   lists : Lent → List ℤ → Sample
-  -- so many words, so many clauses, and V
-  counts : Lent → ℕ → ℕ → ℕ → Sample
   -- whether the diagram allows the build
   allows : Lent → List ℕ → Bool → Sample
   -- it is refused, by this number and with this place
   refused : Lent → ℕ → ℕ → Sample
-  -- it is not refused
-  passes : Lent → Sample
   -- the model reads as this build, where the lent list has room for it
   reads : Lent → List ℤ → List ℕ → Sample
   -- it is refused there, by this number and with this place
   unread : Lent → List ℤ → ℕ → ℕ → Sample
 
 abbrev pub Holds : Sample → Type 0
+Holds (encodes d w c v) = (chain (encodeRules edition1 d w) ≡ Passed) × (length (words (clauses edition1 d)) ≡ w) × (length (clauses edition1 d) ≡ c) × (lastVariable edition1 d ≡ v)
 Holds (lists d ws) = words (clauses edition1 d) ≡ ws
-Holds (counts d w c v) = (length (words (clauses edition1 d)) ≡ w) × (length (clauses edition1 d) ≡ c) × (lastVariable edition1 d ≡ v)
 Holds (allows d build a) = allowsTest d build ≡ a
 Holds (refused d n p) = chain (checkRules d) ≡ Refused (refusal n p)
-Holds (passes d) = chain (checkRules d) ≡ Passed
 Holds (reads d m build) = (chain (modelRules d m edition1 (options d)) ≡ Passed) × (buildOf d m ≡ build)
 Holds (unread d m n p) = chain (modelRules d m edition1 (options d)) ≡ Refused (refusal n p)
 
@@ -49,16 +47,13 @@ abbrev pub s3 : Lent
 s3 = lent (2 ∷ 2 ∷ []) (1 ∷ 2 ∷ []) (3 ∷ 0 ∷ 0 ∷ 1 ∷ [])
 
 -- S3 with other targets, and with other domains
-abbrev pub s5 : List ℕ → Lent
-s5 ts = lent (s3 .domains) (s3 .layers) ts
+abbrev pub s5 : Lent
+s5 = lent (s3 .domains) (s3 .layers) (1 ∷ 0 ∷ 0 ∷ 1 ∷ [])
 
-abbrev pub s6 : List ℕ → Lent
-s6 ds = lent ds (s3 .layers) (s3 .targets)
+abbrev pub s6 : Lent
+s6 = lent (2 ∷ 0 ∷ []) (s3 .layers) (s3 .targets)
 
--- one option of k values, each of which leads to T
-abbrev pub fan : ℕ → Lent
-fan k = lent (k ∷ []) (1 ∷ []) (replicate k 1)
-
+-- the words of the listing
 abbrev pub s1Words : List ℤ
 s1Words =
     plain 1 ∷ plain 2 ∷ pos 0
@@ -79,28 +74,24 @@ s1Words =
 
 unfoldable pub samples : List Sample
 samples =
-    passes s1
+    -- S1
+    encodes s1 42 14 7
     ∷ lists s1 s1Words
-    ∷ counts s1 42 14 7
-    ∷ passes s2
-    ∷ counts s2 24 9 5
-    ∷ passes s3
-    ∷ counts s3 78 25 12
+    -- S2
+    ∷ encodes s2 24 9 5
+    -- S3
+    ∷ encodes s3 78 25 12
     ∷ allows s3 (0 ∷ 1 ∷ []) true
     ∷ allows s3 (1 ∷ 1 ∷ []) false
-    ∷ refused (s5 (1 ∷ 0 ∷ 0 ∷ 1 ∷ [])) 6 0
-    ∷ refused (s5 (1 ∷ 0 ∷ 0 ∷ [])) 5 0
-    ∷ refused (s6 (2 ∷ 0 ∷ [])) 2 1
-    ∷ refused (fan 33) 2 0
-    ∷ passes (fan 32)
+    -- S5
+    ∷ refused s5 6 0
+    -- S6
+    ∷ refused s6 2 1
+    -- S8
     ∷ reads s1 (negated 1 ∷ plain 2 ∷ []) (1 ∷ [])
     ∷ reads s1 (plain 2 ∷ []) (1 ∷ [])
     ∷ unread s1 (plain 1 ∷ []) 13 0
     ∷ unread s1 [] 12 0
     ∷ unread s1 (plain 1 ∷ plain 2 ∷ []) 12 0
     ∷ unread s1 (plain 2 ∷ negated 2 ∷ []) 11 1
-    ∷ unread s1 (plain 2 ∷ negated 2 ∷ pos 0 ∷ []) 10 2
-    ∷ unread s1 (plain 8 ∷ []) 10 0
-    ∷ unread s1 (pos 0 ∷ []) 10 0
-    ∷ unread s1 (negated 2147483648 ∷ []) 10 0
     ∷ []

@@ -44,9 +44,9 @@ fn of_file(number: u32, place: usize) {
         b"there are options, nodes=, as many layer= as there are nodes, edges=, and as many to= as there are edges; each has a\n",
     );
     say(
-        b"whole number up to 4294967295 after the = (no spaces, no sign, no zero in front) and ends in a line feed; nothing\n",
+        b"whole number up to 4294967295 after the = (no space, sign or leading zero) and ends in a line feed without a carriage return;\n",
     );
-    say(b"follows the last.\n");
+    say(b"nothing follows the last.\n");
 }
 
 // Numbers 1, 3, 5 and 7: how much there is of something.
