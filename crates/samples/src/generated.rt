@@ -1,0 +1,228 @@
+// Generated diagrams and builds, and what came of comparing them. Assumes nothing.
+use crate::broken;
+use crate::broken::bad_count;
+use crate::broken::either;
+use crate::broken::place;
+use crate::compare;
+use crate::counts;
+use crate::counts::Counts;
+use crate::lent::Build;
+use crate::lent::Domains;
+use crate::lent::Layers;
+use crate::lent::Targets;
+use crate::lent::Words;
+use crate::numbers::difference;
+use crate::numbers::entry;
+use crate::numbers::front;
+use crate::numbers::put;
+use crate::numbers::sum;
+use crate::random::below;
+use crate::random::next;
+use crate::run::group;
+use crate::second;
+use crate::sound;
+use crate::sound::Size;
+
+// ---- one diagram
+
+// What is lent for `need` words: too few, or as many and none, one or five more.
+fn room_of(need: usize, short: bool, x: usize) -> usize {
+    let choice = below(x, 4);
+    if short {
+        return match choice {
+            0 => difference(need, 1),
+            1 => 0,
+            2 => need / 2,
+            _ => below(next(x), need),
+        };
+    }
+    match choice {
+        1 => sum(need, 1),
+        2 => sum(need, 5),
+        _ => need,
+    }
+}
+
+// Encodes the fronts of the lists; what needs more words than there are is lent 64.
+fn encode_fronts(
+    size: Size,
+    short: bool,
+    x: usize,
+    domains: &Domains,
+    layers: &Layers,
+    targets: &Targets,
+    words: &mut Words,
+    counts: &mut Counts,
+) {
+    let some = front(domains, size.options);
+    let nodes = front(layers, size.nodes);
+    let room = room_of(second::needed(some, nodes), short, x);
+    let lent = either(words.len() < room, 64, room);
+    compare::encode(some, nodes, front(targets, size.edges), words, lent, counts);
+}
+
+fn encode_sound(
+    k: usize,
+    domains: &mut Domains,
+    layers: &mut Layers,
+    targets: &mut Targets,
+    words: &mut Words,
+    counts: &mut Counts,
+) {
+    let size = sound::make(k, domains, layers, targets);
+    encode_fronts(size, false, next(next(k)), domains, layers, targets, words, counts);
+}
+
+fn encode_largest(
+    domains: &mut Domains,
+    layers: &mut Layers,
+    targets: &mut Targets,
+    words: &mut Words,
+    counts: &mut Counts,
+) {
+    let size = sound::make_largest(domains, layers, targets);
+    encode_fronts(size, false, 0, domains, layers, targets, words, counts);
+}
+
+fn encode_broken(
+    k: usize,
+    domains: &mut Domains,
+    layers: &mut Layers,
+    targets: &mut Targets,
+    words: &mut Words,
+    counts: &mut Counts,
+) {
+    let made = sound::make(sum(k, k / 10), domains, layers, targets);
+    let size = broken::spoil_all(k, made, domains, layers, targets);
+    let short = broken::way_of(k) == 9;
+    encode_fronts(size, short, next(next(k)), domains, layers, targets, words, counts);
+}
+
+// ---- one build
+
+fn fill_build(domains: &[u32], build: &mut Build, seed: usize) {
+    let mut x = seed;
+    for i in 0..domains.len() {
+        x = next(x);
+        put(build, i, below(x, entry(domains, i)));
+    }
+}
+
+// A value that its domain does not have.
+fn spoil_build(wanted: bool, domains: &[u32], build: &mut Build, x: usize) {
+    if !wanted {
+        return;
+    }
+    let i = place(x, domains.len());
+    put(build, i, sum(entry(domains, i), below(next(x), 3)));
+}
+
+// Of six builds one has a value outside its domain, one has two, and one has a wrong length.
+fn judge_build(
+    k: usize,
+    size: Size,
+    domains: &Domains,
+    layers: &Layers,
+    targets: &Targets,
+    build: &mut Build,
+    marks: &mut Words,
+    counts: &mut Counts,
+) {
+    let way = k % 6;
+    let x = next(next(sum(k, 9000)));
+    let some = front(domains, size.options);
+    fill_build(some, build, x);
+    spoil_build(way == 2 || way == 3, some, build, x);
+    spoil_build(way == 3, some, build, next(x));
+    let length = either(way == 4, bad_count(size.options, x), size.options);
+    compare::judge(some, front(layers, size.nodes), front(targets, size.edges), front(build, length), marks, counts);
+}
+
+fn judge_one(
+    k: usize,
+    domains: &mut Domains,
+    layers: &mut Layers,
+    targets: &mut Targets,
+    build: &mut Build,
+    marks: &mut Words,
+    counts: &mut Counts,
+) {
+    let made = sound::make(k, domains, layers, targets);
+    let size = broken::spoil_some(k % 12 == 5, k / 12, made, domains, layers, targets);
+    judge_build(k, size, domains, layers, targets, build, marks, counts);
+}
+
+// ---- many of a kind
+
+const SOUND: usize = 0;
+
+const LARGEST: usize = 1;
+
+const BROKEN: usize = 2;
+
+const BUILDS: usize = 3;
+
+fn compare_one(
+    kind: usize,
+    k: usize,
+    domains: &mut Domains,
+    layers: &mut Layers,
+    targets: &mut Targets,
+    build: &mut Build,
+    words: &mut Words,
+    counts: &mut Counts,
+) {
+    match kind {
+        SOUND => encode_sound(k, domains, layers, targets, words, counts),
+        LARGEST => encode_largest(domains, layers, targets, words, counts),
+        BROKEN => encode_broken(k, domains, layers, targets, words, counts),
+        _ => judge_one(k, domains, layers, targets, build, words, counts),
+    }
+}
+
+fn compare_many(
+    kind: usize,
+    times: usize,
+    domains: &mut Domains,
+    layers: &mut Layers,
+    targets: &mut Targets,
+    build: &mut Build,
+    words: &mut Words,
+    counts: &mut Counts,
+) {
+    for k in 0..times {
+        compare_one(kind, k, domains, layers, targets, build, words, counts);
+    }
+}
+
+// Compares so many of a kind, prints what came up, and gives how many things differ.
+fn run(
+    name: &[u8],
+    kind: usize,
+    times: usize,
+    domains: &mut Domains,
+    layers: &mut Layers,
+    targets: &mut Targets,
+    build: &mut Build,
+    words: &mut Words,
+) -> usize {
+    let mut counts = [0usize; 14];
+    compare_many(kind, times, domains, layers, targets, build, words, &mut counts);
+    counts::tell(name, &counts);
+    counts::count(&counts, counts::DIFFER)
+}
+
+pub fn run_all(
+    domains: &mut Domains,
+    layers: &mut Layers,
+    targets: &mut Targets,
+    build: &mut Build,
+    words: &mut Words,
+) -> usize {
+    group(b"generated: the encoder and the judge compared with the second ones");
+    let a = run(b"sound diagrams", SOUND, 2400, domains, layers, targets, build, words);
+    let b = run(b"the largest skid", LARGEST, 1, domains, layers, targets, build, words);
+    let c = run(b"broken diagrams", BROKEN, 3000, domains, layers, targets, build, words);
+    let d = run(b"builds", BUILDS, 4000, domains, layers, targets, build, words);
+    sum(sum(a, b), sum(c, d))
+}
