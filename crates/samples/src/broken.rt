@@ -2,12 +2,13 @@
 use crate::lent::Domains;
 use crate::lent::Layers;
 use crate::lent::Targets;
-use crate::numbers::difference;
-use crate::numbers::put;
-use crate::numbers::sum;
 use crate::random::below;
 use crate::random::next;
+use crate::random::start;
 use crate::sound::Size;
+use second::numbers::difference;
+use second::numbers::put;
+use second::numbers::sum;
 
 pub fn either(test: bool, a: usize, b: usize) -> usize {
     if test { a } else { b }
@@ -35,11 +36,13 @@ fn fault(x: usize, last: usize) -> usize {
     }
 }
 
-fn spoil(wanted: bool, list: &mut [u32], entries: usize, last: usize, x: usize) {
+// Spoils an entry of a list, where it is wanted.
+fn spoil(wanted: bool, list: &mut [u32], entries: usize, last: usize, seed: usize) {
     if !wanted {
         return;
     }
-    put(list, place(x, entries), fault(next(next(x)), last));
+    let x = start(seed);
+    put(list, place(x, entries), fault(start(x), last));
 }
 
 // One entry too few, one too many, or none.
@@ -56,6 +59,29 @@ pub fn way_of(k: usize) -> usize {
     k % 10
 }
 
+fn size_after(k: usize, size: Size) -> Size {
+    let way = way_of(k);
+    let x = start(k);
+    let odd = below(x, 2) == 0;
+    Size {
+        options: either(way == 0, either(odd, 0, 65), size.options),
+        nodes: either(way == 2, either(odd, 0, 4097), size.nodes),
+        edges: either(way == 4, bad_count(size.edges, x), size.edges),
+    }
+}
+
+fn spoil_targets(way: usize, size: Size, targets: &mut Targets, k: usize) {
+    let last = sum(size.nodes, 1);
+    spoil(
+        5 <= way && way <= 8,
+        targets,
+        size.edges,
+        last,
+        sum(k, 2000000),
+    );
+    spoil(way == 8, targets, size.edges, last, sum(k, 3000000));
+}
+
 pub fn spoil_all(
     k: usize,
     size: Size,
@@ -64,20 +90,22 @@ pub fn spoil_all(
     targets: &mut Targets,
 ) -> Size {
     let way = way_of(k);
-    let x = next(next(sum(k, 4000)));
-    let y = next(next(next(x)));
-    let z = next(next(next(y)));
-    let last = sum(size.nodes, 1);
-    spoil(way == 1 || way == 6, domains, size.options, 32, x);
-    spoil(way == 3 || way == 7, layers, size.nodes, size.options, y);
-    spoil(5 <= way && way <= 8, targets, size.edges, last, z);
-    spoil(way == 8, targets, size.edges, last, x);
-    let odd = below(x, 2) == 0;
-    Size {
-        options: either(way == 0, either(odd, 0, 65), size.options),
-        nodes: either(way == 2, either(odd, 0, 4097), size.nodes),
-        edges: either(way == 4, bad_count(size.edges, x), size.edges),
-    }
+    spoil(
+        way == 1 || way == 6,
+        domains,
+        size.options,
+        32,
+        sum(k, 4000000),
+    );
+    spoil(
+        way == 3 || way == 7,
+        layers,
+        size.nodes,
+        size.options,
+        sum(k, 5000000),
+    );
+    spoil_targets(way, size, targets, k);
+    size_after(k, size)
 }
 
 // The same where it is wanted.

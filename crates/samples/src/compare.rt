@@ -3,16 +3,14 @@ use crate::counts;
 use crate::counts::Counts;
 use crate::counts::add;
 use crate::lent::Words;
-use crate::numbers::put_word;
-use crate::numbers::sum;
-use crate::numbers::unlike;
-use crate::numbers::unlike_word;
-use crate::second;
-use crate::second::Expected;
-use crate::second_judge;
-use crate::second_judge::Verdict;
 use cnf::Encoded;
 use judge::Judged;
+use second::encoder::Expected;
+use second::judge::Verdict;
+use second::numbers::put_word;
+use second::numbers::sum;
+use second::numbers::unlike;
+use second::numbers::unlike_word;
 
 // What no clause has as a word.
 const MARK: i32 = 2147483647;
@@ -81,7 +79,12 @@ fn right_answer(right: Expected) -> Answer {
 }
 
 // Encodes a lent diagram into marks.
-fn encode_over_marks(domains: &[u32], layers: &[u32], targets: &[u32], words: &mut [i32]) -> Answer {
+fn encode_over_marks(
+    domains: &[u32],
+    layers: &[u32],
+    targets: &[u32],
+    words: &mut [i32],
+) -> Answer {
     fill_marks(words);
     let answer = encoder::encode(domains, layers, targets, words);
     let outcome = answer.outcome;
@@ -97,12 +100,16 @@ fn count_encoded(
     came: Answer,
     counts: &mut Counts,
 ) {
-    let right = second::expect(domains, layers, targets, words);
+    let right = second::encoder::expect(domains, layers, targets, words);
     let lost = sum(right.unlike, lost_marks(words, right.words));
     add(counts, came.number, 1);
     add(counts, counts::COMPARED, 1);
     add(counts, counts::WORDS, right.words);
-    add(counts, counts::DIFFER, sum(lost, unlike_answers(came, right_answer(right))));
+    add(
+        counts,
+        counts::DIFFER,
+        sum(lost, unlike_answers(came, right_answer(right))),
+    );
 }
 
 fn compare_encoders(
@@ -183,7 +190,7 @@ pub fn judge(
     let answer = judge::judge(domains, layers, targets, build);
     let outcome = answer.outcome;
     let came = verdict_of(outcome);
-    let right = second_judge::judge(domains, layers, targets, build, marks);
+    let right = second::judge::judge(domains, layers, targets, build, marks);
     add(counts, came.number, 1);
     add(counts, counts::COMPARED, 1);
     add(counts, counts::ALLOWED, came.allowed);

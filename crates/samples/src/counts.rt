@@ -1,7 +1,7 @@
 // How often each thing came up in a run: in the first places the refusals by number (0 is none), then what is named here.
 // Assumes nothing.
-use crate::numbers::sum;
 use crate::show;
+use second::numbers::sum;
 
 pub type Counts = [usize; 14];
 
@@ -62,7 +62,7 @@ pub fn tell(name: &[u8], counts: &Counts) {
     tell_named(b": compared=", counts, COMPARED);
     tell_named(b" words=", counts, WORDS);
     tell_named(b" allowed=", counts, ALLOWED);
-    tell_named(b" not refused=", counts, 0);
+    tell_named(b" passed=", counts, 0);
     tell_numbers(counts);
     tell_named(b" differ=", counts, DIFFER);
     show::say(b"\n");

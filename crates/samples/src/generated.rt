@@ -11,17 +11,18 @@ use crate::lent::Domains;
 use crate::lent::Layers;
 use crate::lent::Targets;
 use crate::lent::Words;
-use crate::numbers::difference;
-use crate::numbers::entry;
-use crate::numbers::front;
-use crate::numbers::put;
-use crate::numbers::sum;
 use crate::random::below;
 use crate::random::next;
+use crate::random::start;
 use crate::run::group;
-use crate::second;
 use crate::sound;
 use crate::sound::Size;
+use second::encoder::needed;
+use second::numbers::difference;
+use second::numbers::entry;
+use second::numbers::front;
+use second::numbers::put;
+use second::numbers::sum;
 
 // ---- one diagram
 
@@ -56,7 +57,7 @@ fn encode_fronts(
 ) {
     let some = front(domains, size.options);
     let nodes = front(layers, size.nodes);
-    let room = room_of(second::needed(some, nodes), short, x);
+    let room = room_of(needed(some, nodes), short, x);
     let lent = either(words.len() < room, 64, room);
     compare::encode(some, nodes, front(targets, size.edges), words, lent, counts);
 }
@@ -70,7 +71,16 @@ fn encode_sound(
     counts: &mut Counts,
 ) {
     let size = sound::make(k, domains, layers, targets);
-    encode_fronts(size, false, next(next(k)), domains, layers, targets, words, counts);
+    encode_fronts(
+        size,
+        false,
+        start(k),
+        domains,
+        layers,
+        targets,
+        words,
+        counts,
+    );
 }
 
 fn encode_largest(
@@ -95,7 +105,16 @@ fn encode_broken(
     let made = sound::make(sum(k, k / 10), domains, layers, targets);
     let size = broken::spoil_all(k, made, domains, layers, targets);
     let short = broken::way_of(k) == 9;
-    encode_fronts(size, short, next(next(k)), domains, layers, targets, words, counts);
+    encode_fronts(
+        size,
+        short,
+        start(k),
+        domains,
+        layers,
+        targets,
+        words,
+        counts,
+    );
 }
 
 // ---- one build
@@ -117,7 +136,17 @@ fn spoil_build(wanted: bool, domains: &[u32], build: &mut Build, x: usize) {
     put(build, i, sum(entry(domains, i), below(next(x), 3)));
 }
 
-// Of six builds one has a value outside its domain, one has two, and one has a wrong length.
+// Makes the build of number k, and gives its length. Of six builds one has a value outside its domain, one has two, and one has
+// a wrong length.
+fn make_build(k: usize, domains: &[u32], build: &mut Build) -> usize {
+    let way = k % 6;
+    let x = start(sum(k, 6000000));
+    fill_build(domains, build, x);
+    spoil_build(way == 2 || way == 3, domains, build, x);
+    spoil_build(way == 3, domains, build, start(x));
+    either(way == 4, bad_count(domains.len(), x), domains.len())
+}
+
 fn judge_build(
     k: usize,
     size: Size,
@@ -128,14 +157,11 @@ fn judge_build(
     marks: &mut Words,
     counts: &mut Counts,
 ) {
-    let way = k % 6;
-    let x = next(next(sum(k, 9000)));
     let some = front(domains, size.options);
-    fill_build(some, build, x);
-    spoil_build(way == 2 || way == 3, some, build, x);
-    spoil_build(way == 3, some, build, next(x));
-    let length = either(way == 4, bad_count(size.options, x), size.options);
-    compare::judge(some, front(layers, size.nodes), front(targets, size.edges), front(build, length), marks, counts);
+    let nodes = front(layers, size.nodes);
+    let edges = front(targets, size.edges);
+    let length = make_build(k, some, build);
+    compare::judge(some, nodes, edges, front(build, length), marks, counts);
 }
 
 fn judge_one(
@@ -207,7 +233,16 @@ fn run(
     words: &mut Words,
 ) -> usize {
     let mut counts = [0usize; 14];
-    compare_many(kind, times, domains, layers, targets, build, words, &mut counts);
+    compare_many(
+        kind,
+        times,
+        domains,
+        layers,
+        targets,
+        build,
+        words,
+        &mut counts,
+    );
     counts::tell(name, &counts);
     counts::count(&counts, counts::DIFFER)
 }
@@ -220,9 +255,45 @@ pub fn run_all(
     words: &mut Words,
 ) -> usize {
     group(b"generated: the encoder and the judge compared with the second ones");
-    let a = run(b"sound diagrams", SOUND, 2400, domains, layers, targets, build, words);
-    let b = run(b"the largest skid", LARGEST, 1, domains, layers, targets, build, words);
-    let c = run(b"broken diagrams", BROKEN, 3000, domains, layers, targets, build, words);
-    let d = run(b"builds", BUILDS, 4000, domains, layers, targets, build, words);
+    let a = run(
+        b"sound diagrams",
+        SOUND,
+        2400,
+        domains,
+        layers,
+        targets,
+        build,
+        words,
+    );
+    let b = run(
+        b"the largest skid",
+        LARGEST,
+        1,
+        domains,
+        layers,
+        targets,
+        build,
+        words,
+    );
+    let c = run(
+        b"broken diagrams",
+        BROKEN,
+        3000,
+        domains,
+        layers,
+        targets,
+        build,
+        words,
+    );
+    let d = run(
+        b"builds",
+        BUILDS,
+        4000,
+        domains,
+        layers,
+        targets,
+        build,
+        words,
+    );
     sum(sum(a, b), sum(c, d))
 }

@@ -11,23 +11,21 @@ mod generated;
 mod header_cases;
 mod lent;
 mod listing;
-mod numbers;
 mod random;
 mod run;
 mod scope_samples;
-mod second;
-mod second_check;
-mod second_judge;
 mod show;
 mod sound;
 mod text_samples;
 mod token_cases;
 mod writer_cases;
+
 use lent::Build;
 use lent::Domains;
 use lent::Layers;
 use lent::Targets;
 use lent::Words;
+use second::numbers::sum;
 
 fn tell_last(differ: usize) {
     show::say(b"differ over everything: ");
@@ -58,7 +56,7 @@ fn run_all(
     let b = text_samples::run_all();
     run_text_cases();
     let c = generated::run_all(domains, layers, targets, build, words);
-    tell_last(numbers::sum(numbers::sum(a, b), c));
+    tell_last(sum(sum(a, b), c));
 }
 
 // These arrays fill nearly all of a stack of 8 MB: no other function has a large one.
@@ -68,5 +66,11 @@ fn main() {
     let mut targets = [0u32; 131073];
     let mut build = [0u32; 65];
     let mut words = [0i32; 1940550];
-    run_all(&mut domains, &mut layers, &mut targets, &mut build, &mut words);
+    run_all(
+        &mut domains,
+        &mut layers,
+        &mut targets,
+        &mut build,
+        &mut words,
+    );
 }

@@ -8,25 +8,15 @@ use crate::counts;
 use crate::counts::Counts;
 use crate::counts::add;
 use crate::lent::Words;
-use crate::numbers::entry;
-use crate::numbers::sum;
-use crate::numbers::unlike;
 use crate::run::group;
-use crate::second_judge::Verdict;
 use crate::show;
 use model::ModelRead;
+use second::judge::Verdict;
+use second::numbers::entry;
+use second::numbers::sum;
+use second::numbers::unlike;
 
 // ---- diagrams
-
-fn written(words: usize, clauses: usize, variables: usize) -> Answer {
-    Answer {
-        number: 0,
-        place: 0,
-        words,
-        clauses,
-        variables,
-    }
-}
 
 fn tell_answer(before: &[u8], a: Answer) {
     show::say(before);
@@ -66,36 +56,179 @@ fn encode(
     end_case(unlike_answers(came, right), counts);
 }
 
-fn passing_diagrams(words: &mut Words, counts: &mut Counts) {
+// A diagram that passes: these are the counts of its result, and there is as much room as it needs.
+fn passes(
+    name: &[u8],
+    domains: &[u32],
+    layers: &[u32],
+    targets: &[u32],
+    needed: usize,
+    clauses: usize,
+    variables: usize,
+    words: &mut Words,
+    counts: &mut Counts,
+) {
+    let right = Answer {
+        number: 0,
+        place: 0,
+        words: needed,
+        clauses,
+        variables,
+    };
+    encode(name, domains, layers, targets, needed, right, words, counts);
+}
+
+// A diagram that is refused, with 77 words of room.
+fn refuses(
+    name: &[u8],
+    domains: &[u32],
+    layers: &[u32],
+    targets: &[u32],
+    number: usize,
+    place: usize,
+    words: &mut Words,
+    counts: &mut Counts,
+) {
+    encode(
+        name,
+        domains,
+        layers,
+        targets,
+        77,
+        refused(number, place),
+        words,
+        counts,
+    );
+}
+
+fn passing(words: &mut Words, counts: &mut Counts) {
     group(b"the scope: samples of diagrams");
-    encode(b"S1", &[2], &[1], &[0, 1], 50, written(42, 14, 7), words, counts);
-    encode(b"S2", &[1], &[1], &[1], 50, written(24, 9, 5), words, counts);
-    encode(b"S3", &[2, 2], &[1, 2], &[3, 0, 0, 1], 99, written(78, 25, 12), words, counts);
+    passes(b"S1", &[2], &[1], &[0, 1], 42, 14, 7, words, counts);
+    passes(b"S2", &[1], &[1], &[1], 24, 9, 5, words, counts);
 }
 
 fn room(words: &mut Words, counts: &mut Counts) {
-    encode(b"S4 with 77 words of room", &[2, 2], &[1, 2], &[3, 0, 0, 1], 77, refused(7, 78), words, counts);
-    encode(b"S4 with 78 words of room", &[2, 2], &[1, 2], &[3, 0, 0, 1], 78, written(78, 25, 12), words, counts);
+    refuses(
+        b"S4, S3 with room for 77",
+        &[2, 2],
+        &[1, 2],
+        &[3, 0, 0, 1],
+        7,
+        78,
+        words,
+        counts,
+    );
+    passes(
+        b"S3 and S4, with room for 78",
+        &[2, 2],
+        &[1, 2],
+        &[3, 0, 0, 1],
+        78,
+        25,
+        12,
+        words,
+        counts,
+    );
 }
 
 fn targets(words: &mut Words, counts: &mut Counts) {
-    encode(b"S5 with targets 1 0 0 1", &[2, 2], &[1, 2], &[1, 0, 0, 1], 99, refused(6, 0), words, counts);
-    encode(b"S5 with three targets", &[2, 2], &[1, 2], &[3, 0, 0], 99, refused(5, 0), words, counts);
+    refuses(b"S5", &[2, 2], &[1, 2], &[1, 0, 0, 1], 6, 0, words, counts);
+    refuses(
+        b"S5 with three targets",
+        &[2, 2],
+        &[1, 2],
+        &[3, 0, 0],
+        5,
+        0,
+        words,
+        counts,
+    );
+}
+
+fn bad_domains(words: &mut Words, counts: &mut Counts) {
+    refuses(
+        b"S6 with domains 2 0",
+        &[2, 0],
+        &[1],
+        &[0, 1],
+        2,
+        1,
+        words,
+        counts,
+    );
+    refuses(
+        b"S6 with domain 33",
+        &[33],
+        &[1],
+        &[0, 1],
+        2,
+        0,
+        words,
+        counts,
+    );
 }
 
 // One option of 32 values, all to T: 6 + 2 + 14 * 32 + 33 + 3 * 496 words, 3 + 1 + 4 * 32 + 1 + 496 clauses, 32 + 1 + 2 + 32
 // variables.
-fn domains(words: &mut Words, counts: &mut Counts) {
-    encode(b"S6 with domains 2 0", &[2, 0], &[1], &[0, 1], 99, refused(2, 1), words, counts);
-    encode(b"S6 with domains 33", &[33], &[1], &[0, 1], 99, refused(2, 0), words, counts);
-    encode(b"S6 with domains 32, all to T", &[32], &[1], &[1; 32], 1977, written(1977, 629, 67), words, counts);
+fn widest_domain(words: &mut Words, counts: &mut Counts) {
+    passes(
+        b"S6 with domain 32, all to T",
+        &[32],
+        &[1],
+        &[1; 32],
+        1977,
+        629,
+        67,
+        words,
+        counts,
+    );
 }
 
-fn lengths(words: &mut Words, counts: &mut Counts) {
-    encode(b"S7 with 0 options", &[], &[1], &[0, 1], 99, refused(1, 0), words, counts);
-    encode(b"S7 with 65 options", &[2; 65], &[1], &[0, 1], 99, refused(1, 0), words, counts);
-    encode(b"S7 with no nodes", &[2], &[], &[], 99, refused(3, 0), words, counts);
-    encode(b"S7 with domains 2 2, layers 1 1", &[2, 2], &[1, 1], &[3, 0, 0, 1], 99, refused(4, 1), words, counts);
+fn bad_options(words: &mut Words, counts: &mut Counts) {
+    refuses(
+        b"S7 with 0 options",
+        &[],
+        &[1],
+        &[0, 1],
+        1,
+        0,
+        words,
+        counts,
+    );
+    refuses(
+        b"S7 with 65 options",
+        &[2; 65],
+        &[1],
+        &[0, 1],
+        1,
+        0,
+        words,
+        counts,
+    );
+}
+
+fn bad_nodes(words: &mut Words, counts: &mut Counts) {
+    refuses(b"S7 with no nodes", &[2], &[], &[], 3, 0, words, counts);
+    refuses(
+        b"S7 with layers 1 1",
+        &[2, 2],
+        &[1, 1],
+        &[3, 0, 0, 1],
+        4,
+        1,
+        words,
+        counts,
+    );
+}
+
+fn run_diagrams(words: &mut Words, counts: &mut Counts) {
+    passing(words, counts);
+    room(words, counts);
+    targets(words, counts);
+    bad_domains(words, counts);
+    widest_domain(words, counts);
+    bad_options(words, counts);
+    bad_nodes(words, counts);
 }
 
 // ---- builds
@@ -121,20 +254,22 @@ fn judge(name: &[u8], build: &[u32], right: Verdict, marks: &mut Words, counts: 
     end_case(unlike_verdicts(came, right), counts);
 }
 
-fn verdict(number: usize, place: usize, allowed: usize) -> Verdict {
-    Verdict {
-        number,
-        place,
-        allowed,
-    }
-}
+const ALLOWED: Verdict = Verdict {
+    number: 0,
+    place: 0,
+    allowed: 1,
+};
 
-fn builds(marks: &mut Words, counts: &mut Counts) {
+const NOT_ALLOWED: Verdict = Verdict {
+    number: 0,
+    place: 0,
+    allowed: 0,
+};
+
+fn run_builds(marks: &mut Words, counts: &mut Counts) {
     group(b"the scope: builds of S3");
-    judge(b"S3 with build 0 1", &[0, 1], verdict(0, 0, 1), marks, counts);
-    judge(b"S3 with build 1 1", &[1, 1], verdict(0, 0, 0), marks, counts);
-    judge(b"S3 with build 0", &[0], verdict(8, 0, 0), marks, counts);
-    judge(b"S3 with build 0 2", &[0, 2], verdict(9, 1, 0), marks, counts);
+    judge(b"S3 with build 0 1", &[0, 1], ALLOWED, marks, counts);
+    judge(b"S3 with build 1 1", &[1, 1], NOT_ALLOWED, marks, counts);
 }
 
 // ---- models
@@ -148,23 +283,13 @@ struct Built {
     second: usize,
 }
 
-// A build of one value, of a list of two sevens.
-fn one_value(value: usize) -> Built {
-    Built {
-        number: 0,
-        place: 0,
-        length: 1,
-        first: value,
-        second: 7,
-    }
-}
-
-fn unbuilt(number: usize, place: usize) -> Built {
+// What is expected: a refusal, or with number 0 a build of one value; of a list of two sevens.
+fn expected(number: usize, place: usize, value: usize) -> Built {
     Built {
         number,
         place,
-        length: 0,
-        first: 7,
+        length: if number == 0 { 1 } else { 0 },
+        first: value,
         second: 7,
     }
 }
@@ -206,45 +331,47 @@ fn tell_built(before: &[u8], b: Built) {
 }
 
 // Reads a model of S1 into a list of two sevens.
-fn model(literals: &[i32], right: Built, counts: &mut Counts) {
-    show::say(b"S8 with model:");
-    show::say_words(literals, 0, literals.len());
+fn came_of(literals: &[i32]) -> Built {
     let mut out = [7u32; 2];
     let answer = model::read_model(&[2], &[1], &[0, 1], literals, &mut out);
     let outcome = answer.outcome;
-    let came = built_of(outcome, &out);
-    tell_built(b": expected", right);
+    built_of(outcome, &out)
+}
+
+// A model that is refused leaves a seven where the value would be.
+fn model(literals: &[i32], number: usize, place: usize, value: usize, counts: &mut Counts) {
+    show::say(b"S8 with model [");
+    show::say_words(literals, 0, literals.len());
+    let right = expected(number, place, value);
+    let came = came_of(literals);
+    tell_built(b" ]: expected", right);
     tell_built(b", came", came);
     end_case(unlike_built(came, right), counts);
 }
 
-fn models(counts: &mut Counts) {
+fn run_models(counts: &mut Counts) {
     group(b"the scope: models of S1");
-    model(&[-1, 2], one_value(1), counts);
-    model(&[2], one_value(1), counts);
-    model(&[1], unbuilt(13, 0), counts);
-    model(&[], unbuilt(12, 0), counts);
-    model(&[1, 2], unbuilt(12, 0), counts);
-    model(&[2, -2], unbuilt(11, 1), counts);
-    more_models(counts);
+    model(&[-1, 2], 0, 0, 1, counts);
+    model(&[2], 0, 0, 1, counts);
+    model(&[1], 13, 0, 7, counts);
+    model(&[], 12, 0, 7, counts);
+    model(&[1, 2], 12, 0, 7, counts);
 }
 
-fn more_models(counts: &mut Counts) {
-    model(&[8], unbuilt(10, 0), counts);
-    model(&[0], unbuilt(10, 0), counts);
-    model(&[-2147483648], unbuilt(10, 0), counts);
+fn run_bad_literals(counts: &mut Counts) {
+    model(&[2, -2], 11, 1, 7, counts);
+    model(&[8], 10, 0, 7, counts);
+    model(&[0], 10, 0, 7, counts);
+    model(&[-2147483648], 10, 0, 7, counts);
 }
 
 // ---- all of them; gives how many things differ
 
 pub fn run_all(words: &mut Words) -> usize {
     let mut counts = [0usize; 14];
-    passing_diagrams(words, &mut counts);
-    room(words, &mut counts);
-    targets(words, &mut counts);
-    domains(words, &mut counts);
-    lengths(words, &mut counts);
-    builds(words, &mut counts);
-    models(&mut counts);
+    run_diagrams(words, &mut counts);
+    run_builds(words, &mut counts);
+    run_models(&mut counts);
+    run_bad_literals(&mut counts);
     counts::count(&counts, counts::DIFFER)
 }

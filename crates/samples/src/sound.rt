@@ -2,14 +2,15 @@
 use crate::lent::Domains;
 use crate::lent::Layers;
 use crate::lent::Targets;
-use crate::numbers::entry;
-use crate::numbers::front;
-use crate::numbers::product;
-use crate::numbers::put;
-use crate::numbers::sum;
 use crate::random::below;
 use crate::random::next;
-use crate::second;
+use crate::random::start;
+use second::encoder::nodes_of;
+use second::numbers::entry;
+use second::numbers::front;
+use second::numbers::product;
+use second::numbers::put;
+use second::numbers::sum;
 ghost use Prim.Native.Nat.{_<_};
 
 // How many entries of the lists a diagram has.
@@ -44,22 +45,22 @@ fn kind_of(k: usize) -> usize
 }
 
 // One option has one node.
-fn nodes_of(options: usize, nodes: usize) -> usize {
+fn node_count(options: usize, nodes: usize) -> usize {
     if options == 1 { 1 } else { nodes }
 }
 
 fn shape_of(k: usize) -> Shape {
     let kind = kind_of(k);
-    let a = next(next(k));
+    let a = start(k);
     let b = next(a);
     let c = next(b);
     let options = sum(1, below(a, OPTIONS[kind]));
     Shape {
         options,
-        nodes: nodes_of(options, sum(1, below(b, NODES[kind]))),
+        nodes: node_count(options, sum(1, below(b, NODES[kind]))),
         least: 1,
         domains: DOMAINS[kind],
-        closed: below(c, 6),
+        closed: product(below(next(c), 8), below(c, 2)),
     }
 }
 
@@ -118,7 +119,14 @@ fn target_of(ends: Ends, closed: usize, x: usize) -> usize {
     sum(ends.low, below(next(x), ends.count))
 }
 
-fn fill_targets(targets: &mut Targets, from: usize, to: usize, ends: Ends, closed: usize, seed: usize) {
+fn fill_targets(
+    targets: &mut Targets,
+    from: usize,
+    to: usize,
+    ends: Ends,
+    closed: usize,
+    seed: usize,
+) {
     let mut x = seed;
     for e in from..to {
         x = next(next(x));
@@ -129,24 +137,27 @@ fn fill_targets(targets: &mut Targets, from: usize, to: usize, ends: Ends, close
 // The ends of layer i (from 1), where `past` nodes have it or a lower layer.
 fn ends_of(options: usize, layers: &[u32], i: usize, past: usize) -> Ends {
     if i == options {
-        return Ends {
-            low: 1,
-            count: 1,
-        };
+        return Ends { low: 1, count: 1 };
     }
     Ends {
         low: sum(2, past),
-        count: second::nodes_of(layers, sum(i, 1)),
+        count: nodes_of(layers, sum(i, 1)),
     }
 }
 
 // Fills the targets layer by layer, and gives their number.
-fn fill_all_targets(domains: &[u32], layers: &[u32], targets: &mut Targets, closed: usize, seed: usize) -> usize {
+fn fill_all_targets(
+    domains: &[u32],
+    layers: &[u32],
+    targets: &mut Targets,
+    closed: usize,
+    seed: usize,
+) -> usize {
     let mut x = seed;
     let mut past: usize = 0;
     let mut edge: usize = 0;
     for i in 0..domains.len() {
-        let nodes = second::nodes_of(layers, sum(i, 1));
+        let nodes = nodes_of(layers, sum(i, 1));
         let end = sum(edge, product(nodes, entry(domains, i)));
         past = sum(past, nodes);
         let ends = ends_of(domains.len(), layers, sum(i, 1), past);
@@ -187,7 +198,13 @@ fn fill(
 
 // The diagram of number k.
 pub fn make(k: usize, domains: &mut Domains, layers: &mut Layers, targets: &mut Targets) -> Size {
-    fill(shape_of(k), next(sum(k, 77)), domains, layers, targets)
+    fill(
+        shape_of(k),
+        start(sum(k, 1000000)),
+        domains,
+        layers,
+        targets,
+    )
 }
 
 // A largest skid: 64 options of 32 values, 4,096 nodes.

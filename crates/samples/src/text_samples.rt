@@ -1,14 +1,14 @@
 // 01's samples of clause text: what came, and what is expected. Assumes nothing.
 use crate::counts;
 use crate::counts::Counts;
-use crate::numbers::sum;
-use crate::numbers::unlike;
-use crate::numbers::unlike_word;
 use crate::run::group;
 use crate::run::read_open;
 use crate::scope_samples::end_case;
 use crate::show;
 use dimacs::TextRead;
+use second::numbers::sum;
+use second::numbers::unlike;
+use second::numbers::unlike_word;
 
 // A refusal's number, 0 for none, and place; or how many words were read.
 struct Answer {
@@ -68,15 +68,23 @@ fn read(text: &[u8], number: usize, place: usize, words: &[i32], counts: &mut Co
     end_case(sum(refusals, lists), counts);
 }
 
+fn good(counts: &mut Counts) {
+    read(b"p cnf 1 1\n1 0", 0, 0, &[1, 0], counts);
+    read(b"p cnf 0 0\n", 0, 0, &[], counts);
+}
+
+fn refused(counts: &mut Counts) {
+    read(b"p cnf 1 1\n1", 15, 11, &[], counts);
+    read(b"p cnf 1 1\n2 0", 14, 10, &[], counts);
+    read(b"p cnf 1 1\n-0", 18, 10, &[], counts);
+    read(b"p cnf 1 2\n1 0", 19, 1, &[], counts);
+}
+
 // Gives how many things differ.
 pub fn run_all() -> usize {
     group(b"the scope: samples of clause text");
     let mut counts = [0usize; 14];
-    read(b"p cnf 1 1\n1 0", 0, 0, &[1, 0], &mut counts);
-    read(b"p cnf 1 1\n1", 15, 11, &[], &mut counts);
-    read(b"p cnf 1 1\n2 0", 14, 10, &[], &mut counts);
-    read(b"p cnf 1 1\n-0", 18, 10, &[], &mut counts);
-    read(b"p cnf 1 2\n1 0", 19, 1, &[], &mut counts);
-    read(b"p cnf 0 0\n", 0, 0, &[], &mut counts);
+    good(&mut counts);
+    refused(&mut counts);
     counts::count(&counts, counts::DIFFER)
 }

@@ -19,9 +19,4 @@ compare-many-spec =
     (tie.spec
     Inv-loop
     μ-loop
-    (λ c. tt)
-    (λ c κs. search needs)
-    (λ c. search needs)
-    (λ c. search needs)
-    (λ c. tt)
-    (λ c. search needs))
+    (λ c. tt) (λ c κs. search needs) (λ c. search needs) (λ c. search needs) (λ c. tt) (λ c. search needs))

@@ -17,12 +17,5 @@ fill-build-spec =
     (tie.spec
     Inv-loop
     μ-loop
-    (λ c. tt)
-    (λ c κs. search needs)
-    (λ c κs. search needs)
-    (λ c κs. search needs)
-    (λ c κs. search needs)
-    (λ c. search needs)
-    (λ c. search needs)
-    (λ c. tt)
-    (λ c. search needs))
+    (λ c. tt) (λ c κs. search needs) (λ c κs. search needs) (λ c κs. search needs) (λ c κs. search needs)
+    (λ c. search needs) (λ c. search needs) (λ c. tt) (λ c. search needs))
