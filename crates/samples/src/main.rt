@@ -3,28 +3,22 @@
 // case, worked out by hand. Then generated diagrams and builds, compared with a second encoder and a second judge. The last line
 // says how many things differ over everything. Left out: the writer's number 16 for more than 4,000,000 clauses or 100,000,000
 // words, which needs lists of that size. Assumes nothing.
-mod broken;
 mod clause_cases;
-mod compare;
-mod counts;
-mod generated;
+mod generated_cases;
 mod header_cases;
-mod lent;
 mod listing;
-mod random;
 mod run;
 mod scope_samples;
 mod show;
-mod sound;
 mod text_samples;
 mod token_cases;
 mod writer_cases;
 
-use lent::Build;
-use lent::Domains;
-use lent::Layers;
-use lent::Targets;
-use lent::Words;
+use comparison::lent::Build;
+use comparison::lent::Domains;
+use comparison::lent::Layers;
+use comparison::lent::Targets;
+use comparison::lent::Words;
 use second::numbers::sum;
 
 fn tell_last(differ: usize) {
@@ -55,7 +49,7 @@ fn run_all(
     let a = scope_samples::run_all(words);
     let b = text_samples::run_all();
     run_text_cases();
-    let c = generated::run_all(domains, layers, targets, build, words);
+    let c = generated_cases::run_all(domains, layers, targets, build, words);
     tell_last(sum(sum(a, b), c));
 }
 

@@ -1,15 +1,15 @@
 // 01's samples of diagrams, builds and models: what is expected, and what came. Assumes nothing.
-use crate::compare;
-use crate::compare::Answer;
-use crate::compare::refused;
-use crate::compare::unlike_answers;
-use crate::compare::unlike_verdicts;
-use crate::counts;
-use crate::counts::Counts;
-use crate::counts::add;
-use crate::lent::Words;
 use crate::run::group;
 use crate::show;
+use comparison::compare;
+use comparison::compare::Answer;
+use comparison::compare::refused;
+use comparison::compare::unlike_answers;
+use comparison::compare::unlike_verdicts;
+use comparison::counts;
+use comparison::counts::Counts;
+use comparison::counts::add;
+use comparison::lent::Words;
 use model::ModelRead;
 use second::judge::Verdict;
 use second::numbers::entry;

@@ -1,10 +1,10 @@
 // 01's samples of clause text: what came, and what is expected. Assumes nothing.
-use crate::counts;
-use crate::counts::Counts;
 use crate::run::group;
 use crate::run::read_open;
 use crate::scope_samples::end_case;
 use crate::show;
+use comparison::counts;
+use comparison::counts::Counts;
 use dimacs::TextRead;
 use second::numbers::sum;
 use second::numbers::unlike;

@@ -1,9 +1,9 @@
--- `samples::generated::compare_many` is safe and ends: the measure is how many turns of the loop are left. Nothing has
+-- `comparison::generated::compare_many` is safe and ends: the measure is how many turns of the loop are left. Nothing has
 -- to hold from turn to turn. Assumes nothing.
 use Prim.Native.Nat.{_-_}
 use borrow.Author.Needs.{needs}
-use Rattle.samples.proofs.generated.compare_many.Statement.{statement}
-use Rattle.samples.proofs.generated.compare_many.Tie as tie
+use Rattle.comparison.proofs.generated.compare_many.Statement.{statement}
+use Rattle.comparison.proofs.generated.compare_many.Tie as tie
 
 abbrev Inv-loop : tie.InvT-loop
 Inv-loop kind times domains₀ layers₀ targets₀ build₀ words₀ counts₀ k₀ domains layers targets build words counts k =

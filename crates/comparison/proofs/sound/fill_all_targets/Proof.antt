@@ -1,9 +1,9 @@
--- `samples::sound::fill_all_targets` is safe and ends: the measure is how many turns of the loop are left. Nothing
+-- `comparison::sound::fill_all_targets` is safe and ends: the measure is how many turns of the loop are left. Nothing
 -- has to hold from turn to turn. Assumes nothing.
 use Prim.Native.Nat.{_-_}
 use borrow.Author.Needs.{needs}
-use Rattle.samples.proofs.sound.fill_all_targets.Statement.{statement}
-use Rattle.samples.proofs.sound.fill_all_targets.Tie as tie
+use Rattle.comparison.proofs.sound.fill_all_targets.Statement.{statement}
+use Rattle.comparison.proofs.sound.fill_all_targets.Tie as tie
 
 abbrev Inv-loop : tie.InvT-loop
 Inv-loop domains layers targets₀ closed seed x₀ past₀ edge₀ i₀ i-end targets x past edge i = Unit {0}

@@ -1,11 +1,11 @@
--- `samples::compare::fill_marks` is safe and ends: the measure is how many turns of the loop are left. The lists that
+-- `comparison::compare::fill_marks` is safe and ends: the measure is how many turns of the loop are left. The lists that
 -- are written keep their lengths. Assumes nothing.
 use mathlib.Core.Path.{_≡_}
 use Prim.Native.Nat.{_-_}
 use lib.ListN.{length}
 use borrow.Author.Needs.{needs}
-use Rattle.samples.proofs.compare.fill_marks.Statement.{statement}
-use Rattle.samples.proofs.compare.fill_marks.Tie as tie
+use Rattle.comparison.proofs.compare.fill_marks.Statement.{statement}
+use Rattle.comparison.proofs.compare.fill_marks.Tie as tie
 
 abbrev Inv-loop : tie.InvT-loop
 Inv-loop words₀ k₀ k-end words k = length words ≡ length words₀

@@ -1,9 +1,9 @@
--- `samples::sound::fill_layers` is safe and ends: the measure is how many turns of the loop are left. Nothing has to
+-- `comparison::sound::fill_layers` is safe and ends: the measure is how many turns of the loop are left. Nothing has to
 -- hold from turn to turn. Assumes nothing.
 use Prim.Native.Nat.{_-_}
 use borrow.Author.Needs.{needs}
-use Rattle.samples.proofs.sound.fill_layers.Statement.{statement}
-use Rattle.samples.proofs.sound.fill_layers.Tie as tie
+use Rattle.comparison.proofs.sound.fill_layers.Statement.{statement}
+use Rattle.comparison.proofs.sound.fill_layers.Tie as tie
 
 abbrev Inv-loop : tie.InvT-loop
 Inv-loop layers₀ options nodes seed x₀ layer₀ v₀ layers x layer v = Unit {0}

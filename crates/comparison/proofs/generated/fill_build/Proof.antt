@@ -1,9 +1,9 @@
--- `samples::generated::fill_build` is safe and ends: the measure is how many turns of the loop are left. Nothing has
+-- `comparison::generated::fill_build` is safe and ends: the measure is how many turns of the loop are left. Nothing has
 -- to hold from turn to turn. Assumes nothing.
 use Prim.Native.Nat.{_-_}
 use borrow.Author.Needs.{needs}
-use Rattle.samples.proofs.generated.fill_build.Statement.{statement}
-use Rattle.samples.proofs.generated.fill_build.Tie as tie
+use Rattle.comparison.proofs.generated.fill_build.Statement.{statement}
+use Rattle.comparison.proofs.generated.fill_build.Tie as tie
 
 abbrev Inv-loop : tie.InvT-loop
 Inv-loop domains build₀ seed x₀ i₀ i-end build x i = Unit {0}

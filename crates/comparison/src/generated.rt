@@ -1,10 +1,9 @@
-// Generated diagrams and builds, and what came of comparing them. Assumes nothing.
+// Generated diagrams and builds, compared. Assumes nothing.
 use crate::broken;
 use crate::broken::bad_count;
 use crate::broken::either;
 use crate::broken::place;
 use crate::compare;
-use crate::counts;
 use crate::counts::Counts;
 use crate::lent::Build;
 use crate::lent::Domains;
@@ -14,7 +13,6 @@ use crate::lent::Words;
 use crate::random::below;
 use crate::random::next;
 use crate::random::start;
-use crate::run::group;
 use crate::sound;
 use crate::sound::Size;
 use second::encoder::needed;
@@ -180,13 +178,13 @@ fn judge_one(
 
 // ---- many of a kind
 
-const SOUND: usize = 0;
+pub const SOUND: usize = 0;
 
-const LARGEST: usize = 1;
+pub const LARGEST: usize = 1;
 
-const BROKEN: usize = 2;
+pub const BROKEN: usize = 2;
 
-const BUILDS: usize = 3;
+pub const BUILDS: usize = 3;
 
 fn compare_one(
     kind: usize,
@@ -206,7 +204,8 @@ fn compare_one(
     }
 }
 
-fn compare_many(
+// Compares so many of a kind.
+pub fn compare_many(
     kind: usize,
     times: usize,
     domains: &mut Domains,
@@ -219,81 +218,4 @@ fn compare_many(
     for k in 0..times {
         compare_one(kind, k, domains, layers, targets, build, words, counts);
     }
-}
-
-// Compares so many of a kind, prints what came up, and gives how many things differ.
-fn run(
-    name: &[u8],
-    kind: usize,
-    times: usize,
-    domains: &mut Domains,
-    layers: &mut Layers,
-    targets: &mut Targets,
-    build: &mut Build,
-    words: &mut Words,
-) -> usize {
-    let mut counts = [0usize; 14];
-    compare_many(
-        kind,
-        times,
-        domains,
-        layers,
-        targets,
-        build,
-        words,
-        &mut counts,
-    );
-    counts::tell(name, &counts);
-    counts::count(&counts, counts::DIFFER)
-}
-
-pub fn run_all(
-    domains: &mut Domains,
-    layers: &mut Layers,
-    targets: &mut Targets,
-    build: &mut Build,
-    words: &mut Words,
-) -> usize {
-    group(b"generated: the encoder and the judge compared with the second ones");
-    let a = run(
-        b"sound diagrams",
-        SOUND,
-        2400,
-        domains,
-        layers,
-        targets,
-        build,
-        words,
-    );
-    let b = run(
-        b"the largest skid",
-        LARGEST,
-        1,
-        domains,
-        layers,
-        targets,
-        build,
-        words,
-    );
-    let c = run(
-        b"broken diagrams",
-        BROKEN,
-        3000,
-        domains,
-        layers,
-        targets,
-        build,
-        words,
-    );
-    let d = run(
-        b"builds",
-        BUILDS,
-        4000,
-        domains,
-        layers,
-        targets,
-        build,
-        words,
-    );
-    sum(sum(a, b), sum(c, d))
 }

@@ -1,9 +1,9 @@
--- `samples::sound::fill_targets` is safe and ends: the measure is how many turns of the loop are left. Nothing has to
+-- `comparison::sound::fill_targets` is safe and ends: the measure is how many turns of the loop are left. Nothing has to
 -- hold from turn to turn. Assumes nothing.
 use Prim.Native.Nat.{_-_}
 use borrow.Author.Needs.{needs}
-use Rattle.samples.proofs.sound.fill_targets.Statement.{statement}
-use Rattle.samples.proofs.sound.fill_targets.Tie as tie
+use Rattle.comparison.proofs.sound.fill_targets.Statement.{statement}
+use Rattle.comparison.proofs.sound.fill_targets.Tie as tie
 
 abbrev Inv-loop : tie.InvT-loop
 Inv-loop targets₀ from to ends closed seed x₀ e₀ targets x e = Unit {0}

@@ -1,9 +1,9 @@
--- `samples::compare::lost_marks` is safe and ends: the measure is how many turns of the loop are left. Nothing has to
+-- `comparison::compare::lost_marks` is safe and ends: the measure is how many turns of the loop are left. Nothing has to
 -- hold from turn to turn. Assumes nothing.
 use Prim.Native.Nat.{_-_}
 use borrow.Author.Needs.{needs}
-use Rattle.samples.proofs.compare.lost_marks.Statement.{statement}
-use Rattle.samples.proofs.compare.lost_marks.Tie as tie
+use Rattle.comparison.proofs.compare.lost_marks.Statement.{statement}
+use Rattle.comparison.proofs.compare.lost_marks.Tie as tie
 
 abbrev Inv-loop : tie.InvT-loop
 Inv-loop words from lost₀ k₀ k-end lost k = Unit {0}

@@ -1,6 +1,5 @@
 // How often each thing came up in a run: in the first places the refusals by number (0 is none), then what is named here.
 // Assumes nothing.
-use crate::show;
 use second::numbers::sum;
 
 pub type Counts = [usize; 14];
@@ -34,36 +33,4 @@ fn entry(list: &[usize], what: usize) -> usize {
 
 pub fn count(counts: &Counts, what: usize) -> usize {
     entry(counts, what)
-}
-
-// ---- printing
-
-fn tell_refused(number: usize, times: usize) {
-    if times == 0 {
-        return;
-    }
-    show::say_named(b" refused=", number as u64);
-    show::say_named(b":", times as u64);
-}
-
-fn tell_numbers(counts: &Counts) {
-    for number in 1..10 {
-        tell_refused(number, count(counts, number));
-    }
-}
-
-fn tell_named(name: &[u8], counts: &Counts, what: usize) {
-    show::say_named(name, count(counts, what) as u64);
-}
-
-// One line for a run.
-pub fn tell(name: &[u8], counts: &Counts) {
-    show::say(name);
-    tell_named(b": compared=", counts, COMPARED);
-    tell_named(b" words=", counts, WORDS);
-    tell_named(b" allowed=", counts, ALLOWED);
-    tell_named(b" passed=", counts, 0);
-    tell_numbers(counts);
-    tell_named(b" differ=", counts, DIFFER);
-    show::say(b"\n");
 }
