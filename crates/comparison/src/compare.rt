@@ -5,12 +5,12 @@ use crate::counts::add;
 use crate::lent::Words;
 use cnf::Encoded;
 use judge::Judged;
-use second::encoder::Expected;
-use second::judge::Verdict;
+use second::builds::Verdict;
 use second::numbers::put_word;
 use second::numbers::sum;
 use second::numbers::unlike;
 use second::numbers::unlike_word;
+use second::words::Expected;
 
 // What no clause has as a word.
 const MARK: i32 = 2147483647;
@@ -100,7 +100,7 @@ fn count_encoded(
     came: Answer,
     counts: &mut Counts,
 ) {
-    let right = second::encoder::expect(domains, layers, targets, words);
+    let right = second::words::expect(domains, layers, targets, words);
     let lost = sum(right.unlike, lost_marks(words, right.words));
     add(counts, came.number, 1);
     add(counts, counts::COMPARED, 1);
@@ -190,7 +190,7 @@ pub fn judge(
     let answer = judge::judge(domains, layers, targets, build);
     let outcome = answer.outcome;
     let came = verdict_of(outcome);
-    let right = second::judge::judge(domains, layers, targets, build, marks);
+    let right = second::builds::judge(domains, layers, targets, build, marks);
     add(counts, came.number, 1);
     add(counts, counts::COMPARED, 1);
     add(counts, counts::ALLOWED, came.allowed);

@@ -15,12 +15,12 @@ use crate::random::next;
 use crate::random::start;
 use crate::sound;
 use crate::sound::Size;
-use second::encoder::needed;
 use second::numbers::difference;
 use second::numbers::entry;
 use second::numbers::front;
 use second::numbers::put;
 use second::numbers::sum;
+use second::words::needed;
 
 // ---- one diagram
 

@@ -5,12 +5,12 @@ use crate::lent::Targets;
 use crate::random::below;
 use crate::random::next;
 use crate::random::start;
-use second::encoder::nodes_of;
 use second::numbers::entry;
 use second::numbers::front;
 use second::numbers::product;
 use second::numbers::put;
 use second::numbers::sum;
+use second::words::nodes_of;
 ghost use Prim.Native.Nat.{_<_};
 
 // How many entries of the lists a diagram has.

@@ -11,7 +11,7 @@ use comparison::counts::Counts;
 use comparison::counts::add;
 use comparison::lent::Words;
 use model::ModelRead;
-use second::judge::Verdict;
+use second::builds::Verdict;
 use second::numbers::entry;
 use second::numbers::sum;
 use second::numbers::unlike;

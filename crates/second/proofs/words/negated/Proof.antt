@@ -1,10 +1,10 @@
--- `second::encoder::negated` is safe and ends: the remainder is below the limit of a word. Assumes nothing.
+-- `second::words::negated` is safe and ends: the remainder is below the limit of a word. Assumes nothing.
 use Prim.Native.Nat.{_%_}
 use borrow.Author.Needs.{needs}
 use native.Mathlib.Omega.{arith}
 use Rattle.lists.proofs.SignedLaws.{fits-less}
-use Rattle.second.proofs.encoder.negated.Statement.{statement}
-use Rattle.second.proofs.encoder.negated.Tie as tie
+use Rattle.second.proofs.words.negated.Statement.{statement}
+use Rattle.second.proofs.words.negated.Tie as tie
 
 pub negated-spec : {M : Type 1} → statement M
 negated-spec =

@@ -1,5 +1,5 @@
-// A second encoder: each word from its index, by arithmetic on where its stretch of the list begins. It writes nothing: it is held
-// against words that are there. It uses nothing of the library. Assumes nothing.
+// A second encoder: each word from its index, by arithmetic on where its stretch of the list begins. It writes nothing: it is
+// held against words that are there. It uses nothing of the library. Assumes nothing.
 use crate::checker;
 use crate::numbers::difference;
 use crate::numbers::entry;

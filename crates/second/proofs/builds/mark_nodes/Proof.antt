@@ -1,11 +1,11 @@
--- `second::judge::mark_nodes` is safe and ends: the measure is how many turns of the loop are left. The
+-- `second::builds::mark_nodes` is safe and ends: the measure is how many turns of the loop are left. The
 -- lists that are written keep their lengths. Assumes nothing.
 use mathlib.Core.Path.{_≡_}
 use Prim.Native.Nat.{_-_}
 use lib.ListN.{length}
 use borrow.Author.Needs.{needs}
-use Rattle.second.proofs.judge.mark_nodes.Statement.{statement}
-use Rattle.second.proofs.judge.mark_nodes.Tie as tie
+use Rattle.second.proofs.builds.mark_nodes.Statement.{statement}
+use Rattle.second.proofs.builds.mark_nodes.Tie as tie
 
 abbrev Inv-loop : tie.InvT-loop
 Inv-loop domains layers targets build marks₀ edge₀ k₀ k-end marks edge k = length marks ≡ length marks₀

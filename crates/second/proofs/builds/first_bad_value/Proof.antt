@@ -1,9 +1,9 @@
--- `second::judge::first_bad_value` is safe and ends: the measure is how many turns of the loop are left.
+-- `second::builds::first_bad_value` is safe and ends: the measure is how many turns of the loop are left.
 -- Nothing has to hold from turn to turn. Assumes nothing.
 use Prim.Native.Nat.{_-_}
 use borrow.Author.Needs.{needs}
-use Rattle.second.proofs.judge.first_bad_value.Statement.{statement}
-use Rattle.second.proofs.judge.first_bad_value.Tie as tie
+use Rattle.second.proofs.builds.first_bad_value.Statement.{statement}
+use Rattle.second.proofs.builds.first_bad_value.Tie as tie
 
 abbrev Inv-loop : tie.InvT-loop
 Inv-loop domains build i₀ i-end i = Unit {0}
