@@ -68,14 +68,13 @@ fn run(
     counts::count(&counts, counts::DIFFER)
 }
 
-pub fn run_all(
+fn run_passing(
     domains: &mut Domains,
     layers: &mut Layers,
     targets: &mut Targets,
     build: &mut Build,
     words: &mut Words,
 ) -> usize {
-    group(b"generated: the encoder and the judge compared with the second ones");
     let a = run(
         b"sound diagrams",
         generated::SOUND,
@@ -96,7 +95,17 @@ pub fn run_all(
         build,
         words,
     );
-    let c = run(
+    sum(a, b)
+}
+
+fn run_others(
+    domains: &mut Domains,
+    layers: &mut Layers,
+    targets: &mut Targets,
+    build: &mut Build,
+    words: &mut Words,
+) -> usize {
+    let a = run(
         b"broken diagrams",
         generated::BROKEN,
         3000,
@@ -106,7 +115,7 @@ pub fn run_all(
         build,
         words,
     );
-    let d = run(
+    let b = run(
         b"builds",
         generated::BUILDS,
         4000,
@@ -116,5 +125,18 @@ pub fn run_all(
         build,
         words,
     );
-    sum(sum(a, b), sum(c, d))
+    sum(a, b)
+}
+
+pub fn run_all(
+    domains: &mut Domains,
+    layers: &mut Layers,
+    targets: &mut Targets,
+    build: &mut Build,
+    words: &mut Words,
+) -> usize {
+    group(b"generated: the encoder and the judge compared with the second ones");
+    let a = run_passing(domains, layers, targets, build, words);
+    let b = run_others(domains, layers, targets, build, words);
+    sum(a, b)
 }
