@@ -1,21 +1,70 @@
-// A program: runs samples, one line a case: what was put in and, after `->`, what came out; after `|` the entries of
-// the lent buffer that keep their mark. The file `stdout` has what the scope makes of each case, worked out by hand. Left out:
-// the writer's number 16 for more than 4,000,000 clauses or 100,000,000 words, which needs lists of that size. Assumes
-// nothing.
+// A program: runs samples, one line a case: what was put in and, after `->` or `came`, what came out; after `|` the entries of
+// the lent buffer that keep their mark; after `expected` what the scope says. The file `stdout` has what the scope makes of each
+// case, worked out by hand. Then generated diagrams and builds, compared with a second encoder and a second judge. The last line
+// says how many things differ over everything. Left out: the writer's number 16 for more than 4,000,000 clauses or 100,000,000
+// words, which needs lists of that size. Assumes nothing.
 mod clause_cases;
+mod generated_cases;
 mod header_cases;
 mod listing;
 mod run;
+mod scope_samples;
 mod show;
 mod text_samples;
 mod token_cases;
 mod writer_cases;
 
-fn main() {
-    text_samples::run_all();
+use comparison::lent::Build;
+use comparison::lent::Domains;
+use comparison::lent::Layers;
+use comparison::lent::Targets;
+use comparison::lent::Words;
+use second::numbers::sum;
+
+fn tell_last(differ: usize) {
+    show::say(b"differ over everything: ");
+    if differ == 0 {
+        show::say(b"none\n");
+        return;
+    }
+    show::say_number(differ as u64);
+    show::say(b"\n");
+}
+
+fn run_text_cases() {
     listing::run_all();
     header_cases::run_all();
     token_cases::run_all();
     clause_cases::run_all();
     writer_cases::run_all();
+}
+
+fn run_all(
+    domains: &mut Domains,
+    layers: &mut Layers,
+    targets: &mut Targets,
+    build: &mut Build,
+    words: &mut Words,
+) {
+    let a = scope_samples::run_all(words);
+    let b = text_samples::run_all();
+    run_text_cases();
+    let c = generated_cases::run_all(domains, layers, targets, build, words);
+    tell_last(sum(sum(a, b), c));
+}
+
+// These arrays fill nearly all of a stack of 8 MB: no other function has a large one.
+fn main() {
+    let mut domains = [0u32; 65];
+    let mut layers = [0u32; 4097];
+    let mut targets = [0u32; 131073];
+    let mut build = [0u32; 65];
+    let mut words = [0i32; 1940550];
+    run_all(
+        &mut domains,
+        &mut layers,
+        &mut targets,
+        &mut build,
+        &mut words,
+    );
 }

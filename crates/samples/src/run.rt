@@ -18,8 +18,7 @@ fn tell_no_room() {
 }
 
 fn tell_refusal(r: Refusal) {
-    show::say_named(b" refused=", r.number as u64);
-    show::say_named(b" place=", r.place as u64);
+    show::say_refusal(r.number as usize, r.place);
 }
 
 // ---- the reader
@@ -36,7 +35,6 @@ fn tell_list(list: &[i32], words: usize) {
     show::say_words(list, 0, words);
     show::say(b" |");
     show::say_words(list, words, list.len());
-    show::say(b"\n");
 }
 
 fn tell_read(outcome: TextRead, list: &[i32]) {
@@ -52,14 +50,21 @@ fn tell_read(outcome: TextRead, list: &[i32]) {
     }
 }
 
-// Reads a text into a lent list.
-pub fn read_into(text: &[u8], list: &mut [i32]) {
+// Reads a text into a lent list, and leaves the line open.
+pub fn read_open(text: &[u8], list: &mut [i32]) -> TextRead {
     show::say(b"read ");
     show::say_quoted(text, 0, text.len());
     show::say(b" ->");
     let answer = dimacs::read_text(text, list);
     let outcome = answer.outcome;
     tell_read(outcome, list);
+    outcome
+}
+
+// Reads a text into a lent list.
+pub fn read_into(text: &[u8], list: &mut [i32]) {
+    read_open(text, list);
+    show::say(b"\n");
 }
 
 // Reads a text into the first `room` entries of a list.

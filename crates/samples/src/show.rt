@@ -15,6 +15,12 @@ pub fn say_named(name: &[u8], n: u64) {
     say_number(n);
 }
 
+// A refusal's number and place.
+pub fn say_refusal(number: usize, place: usize) {
+    say_named(b" refused=", number as u64);
+    say_named(b" place=", place as u64);
+}
+
 // ---- words
 
 // A space, and a word.

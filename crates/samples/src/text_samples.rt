@@ -1,13 +1,90 @@
-// 01's samples of clause text. Assumes nothing.
+// 01's samples of clause text: what came, and what is expected. Assumes nothing.
 use crate::run::group;
-use crate::run::read;
+use crate::run::read_open;
+use crate::scope_samples::end_case;
+use crate::show;
+use comparison::counts;
+use comparison::counts::Counts;
+use dimacs::TextRead;
+use second::numbers::sum;
+use second::numbers::unlike;
+use second::numbers::unlike_word;
 
-pub fn run_all() {
+// A refusal's number, 0 for none, and place; or how many words were read.
+struct Answer {
+    number: usize,
+    place: usize,
+    words: usize,
+}
+
+fn answer_of(outcome: TextRead) -> Answer {
+    match outcome {
+        TextRead::Read(t) => Answer {
+            number: 0,
+            place: 0,
+            words: t.words,
+        },
+        TextRead::Refused(r) => Answer {
+            number: r.number as usize,
+            place: r.place,
+            words: 0,
+        },
+    }
+}
+
+// The word that is expected at an index of a list of sevens.
+fn right_word(words: &[i32], at: usize) -> i32 {
+    if words.len() <= at {
+        return 7;
+    }
+    words[at]
+}
+
+fn unlike_list(list: &[i32], words: &[i32]) -> usize {
+    let mut n: usize = 0;
+    for k in 0..list.len() {
+        n = sum(n, unlike_word(list, k, right_word(words, k)));
+    }
+    n
+}
+
+fn tell_expected(number: usize, place: usize, words: &[i32]) {
+    show::say(b", expected");
+    if number != 0 {
+        show::say_refusal(number, place);
+        return;
+    }
+    show::say(b" words:");
+    show::say_words(words, 0, words.len());
+}
+
+// Reads a text into four sevens; a refusal is expected, or with number 0 these words.
+fn read(text: &[u8], number: usize, place: usize, words: &[i32], counts: &mut Counts) {
+    let mut list = [7i32; 4];
+    let came = answer_of(read_open(text, &mut list));
+    tell_expected(number, place, words);
+    let refusals = sum(unlike(came.number, number), unlike(came.place, place));
+    let lists = sum(unlike(came.words, words.len()), unlike_list(&list, words));
+    end_case(sum(refusals, lists), counts);
+}
+
+fn good(counts: &mut Counts) {
+    read(b"p cnf 1 1\n1 0", 0, 0, &[1, 0], counts);
+    read(b"p cnf 0 0\n", 0, 0, &[], counts);
+}
+
+fn refused(counts: &mut Counts) {
+    read(b"p cnf 1 1\n1", 15, 11, &[], counts);
+    read(b"p cnf 1 1\n2 0", 14, 10, &[], counts);
+    read(b"p cnf 1 1\n-0", 18, 10, &[], counts);
+    read(b"p cnf 1 2\n1 0", 19, 1, &[], counts);
+}
+
+// Gives how many things differ.
+pub fn run_all() -> usize {
     group(b"the scope: samples of clause text");
-    read(b"p cnf 1 1\n1 0", 4);
-    read(b"p cnf 1 1\n1", 4);
-    read(b"p cnf 1 1\n2 0", 4);
-    read(b"p cnf 1 1\n-0", 4);
-    read(b"p cnf 1 2\n1 0", 4);
-    read(b"p cnf 0 0\n", 4);
+    let mut counts = [0usize; 14];
+    good(&mut counts);
+    refused(&mut counts);
+    counts::count(&counts, counts::DIFFER)
 }

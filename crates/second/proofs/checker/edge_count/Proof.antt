@@ -1,0 +1,21 @@
+-- `second::checker::edge_count` is safe and ends: the measure is how many turns of the loop are left. Nothing
+-- has to hold from turn to turn. Assumes nothing.
+use Prim.Native.Nat.{_-_}
+use borrow.Author.Needs.{needs}
+use Rattle.second.proofs.checker.edge_count.Statement.{statement}
+use Rattle.second.proofs.checker.edge_count.Tie as tie
+
+abbrev Inv-loop : tie.InvT-loop
+Inv-loop domains layers n₀ v₀ v-end n v = Unit {0}
+
+abbrev μ-loop : tie.MeasureT-loop
+μ-loop domains layers n₀ v₀ v-end n v = v-end - v
+
+pub edge-count-spec : {M : Type 1} → statement M
+edge-count-spec =
+    tie.close
+    (tie.spec
+    Inv-loop
+    μ-loop
+    (λ c. tt) (λ c κs. search needs) (λ c κs. search needs) (λ c. search needs) (λ c. search needs) (λ c. tt)
+    (λ c. search needs))

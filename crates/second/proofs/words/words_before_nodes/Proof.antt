@@ -1,0 +1,21 @@
+-- `second::words::words_before_nodes` is safe and ends: the measure is how many turns of the loop are left. Nothing
+-- has to hold from turn to turn. Assumes nothing.
+use Prim.Native.Nat.{_-_}
+use borrow.Author.Needs.{needs}
+use Rattle.second.proofs.words.words_before_nodes.Statement.{statement}
+use Rattle.second.proofs.words.words_before_nodes.Tie as tie
+
+abbrev Inv-loop : tie.InvT-loop
+Inv-loop domains n₀ i₀ i-end n i = Unit {0}
+
+abbrev μ-loop : tie.MeasureT-loop
+μ-loop domains n₀ i₀ i-end n i = i-end - i
+
+pub words-before-nodes-spec : {M : Type 1} → statement M
+words-before-nodes-spec =
+    tie.close
+    (tie.spec
+    Inv-loop
+    μ-loop
+    (λ c. tt) (λ c κs. search needs) (λ c κs. search needs) (λ c κs. search needs) (λ c. search needs)
+    (λ c. search needs) (λ c. tt) (λ c. search needs))
