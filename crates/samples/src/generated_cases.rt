@@ -1,7 +1,5 @@
 // Generated diagrams and builds: how many were compared with the second encoder and the second judge, and what came up. Assumes
 // nothing.
-use crate::run::group;
-use crate::show;
 use comparison::counts;
 use comparison::counts::Counts;
 use comparison::generated;
@@ -11,6 +9,7 @@ use comparison::lent::Layers;
 use comparison::lent::Targets;
 use comparison::lent::Words;
 use second::numbers::sum;
+use show::group;
 
 fn tell_refused(number: usize, times: usize) {
     if times == 0 {

@@ -1,18 +1,8 @@
-// A program: runs samples, one line a case: what was put in and, after `->` or `came`, what came out; after `|` the entries of
-// the lent buffer that keep their mark; after `expected` what the scope says. The file `stdout` has what the scope makes of each
-// case, worked out by hand. Then generated diagrams and builds, compared with a second encoder and a second judge. The last line
-// says how many things differ over everything. Left out: the writer's number 16 for more than 4,000,000 clauses or 100,000,000
-// words, which needs lists of that size. Assumes nothing.
-mod clause_cases;
+// A program: the scope's samples, one line a sample with what is expected and what came; then generated diagrams and builds,
+// compared with a second encoder and a second judge. The last line says how many things differ over everything. Assumes nothing.
 mod generated_cases;
-mod header_cases;
-mod listing;
-mod run;
 mod scope_samples;
-mod show;
 mod text_samples;
-mod token_cases;
-mod writer_cases;
 
 use comparison::lent::Build;
 use comparison::lent::Domains;
@@ -31,14 +21,6 @@ fn tell_last(differ: usize) {
     show::say(b"\n");
 }
 
-fn run_text_cases() {
-    listing::run_all();
-    header_cases::run_all();
-    token_cases::run_all();
-    clause_cases::run_all();
-    writer_cases::run_all();
-}
-
 fn run_all(
     domains: &mut Domains,
     layers: &mut Layers,
@@ -48,7 +30,6 @@ fn run_all(
 ) {
     let a = scope_samples::run_all(words);
     let b = text_samples::run_all();
-    run_text_cases();
     let c = generated_cases::run_all(domains, layers, targets, build, words);
     tell_last(sum(sum(a, b), c));
 }

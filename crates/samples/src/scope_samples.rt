@@ -1,6 +1,4 @@
 // 01's samples of diagrams, builds and models: what is expected, and what came. Assumes nothing.
-use crate::run::group;
-use crate::show;
 use comparison::compare;
 use comparison::compare::Answer;
 use comparison::compare::refused;
@@ -15,6 +13,7 @@ use second::builds::Verdict;
 use second::numbers::entry;
 use second::numbers::sum;
 use second::numbers::unlike;
+use show::group;
 
 // ---- diagrams
 
@@ -360,6 +359,7 @@ fn run_models(counts: &mut Counts) {
 
 fn run_bad_literals(counts: &mut Counts) {
     model(&[2, -2], 11, 1, 7, counts);
+    model(&[2, -2, 0], 10, 2, 7, counts);
     model(&[8], 10, 0, 7, counts);
     model(&[0], 10, 0, 7, counts);
     model(&[-2147483648], 10, 0, 7, counts);

@@ -1,14 +1,13 @@
 // 01's samples of clause text: what came, and what is expected. Assumes nothing.
-use crate::run::group;
-use crate::run::read_open;
 use crate::scope_samples::end_case;
-use crate::show;
 use comparison::counts;
 use comparison::counts::Counts;
 use dimacs::TextRead;
 use second::numbers::sum;
 use second::numbers::unlike;
 use second::numbers::unlike_word;
+use show::group;
+use show::read_open;
 
 // A refusal's number, 0 for none, and place; or how many words were read.
 struct Answer {

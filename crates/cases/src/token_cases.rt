@@ -1,6 +1,6 @@
 // Edge cases of the reader: the tokens (18, 14). Assumes nothing.
-use crate::run::group;
 use crate::run::read;
+use show::group;
 
 pub fn run_all() {
     gaps();

@@ -1,7 +1,7 @@
 // The listing of 01's "The program": its words written as that text, and the text read back. Assumes nothing.
-use crate::run::group;
 use crate::run::read_into;
 use crate::run::write_into;
+use show::group;
 
 const WORDS: [i32; 42] = [
     1,

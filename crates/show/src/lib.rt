@@ -1,5 +1,10 @@
-// Printing: fixed bytes, numbers, words, and bytes as a person reads them. Assumes nothing.
+// Printing for the programs that run samples and cases: fixed bytes, numbers, words, bytes as a person reads them, and what a
+// reading of clause text gives. Its functions are proved to be safe and to end; no contract can say what is printed. Assumes
+// nothing.
+use cnf::Tally;
+use dimacs::TextRead;
 use libc::STDOUT_FILENO;
+use refusal::Refusal;
 
 pub fn say(bytes: &[u8]) {
     io::write_all(STDOUT_FILENO, bytes);
@@ -87,4 +92,55 @@ pub fn say_quoted(text: &[u8], from: usize, to: usize) {
     say(b"\"");
     say_bytes(text, from, to);
     say(b"\"");
+}
+
+// A heading over the cases that follow.
+pub fn group(name: &[u8]) {
+    say(b"-- ");
+    say(name);
+    say(b"\n");
+}
+
+// ---- clause text that is read
+
+pub fn tell_refusal(r: Refusal) {
+    say_refusal(r.number as usize, r.place);
+}
+
+fn tell_tally(t: Tally) {
+    say_named(b" words=", t.words as u64);
+    say_named(b" clauses=", t.clauses as u64);
+    say_named(b" variables=", t.variables as u64);
+    say(b":");
+}
+
+// The lent list afterwards: its first words, a bar, and the others.
+fn tell_list(list: &[i32], words: usize) {
+    say_words(list, 0, words);
+    say(b" |");
+    say_words(list, words, list.len());
+}
+
+fn tell_read(outcome: TextRead, list: &[i32]) {
+    match outcome {
+        TextRead::Read(t) => {
+            tell_tally(t);
+            tell_list(list, t.words);
+        }
+        TextRead::Refused(r) => {
+            tell_refusal(r);
+            tell_list(list, 0);
+        }
+    }
+}
+
+// Reads a text into a lent list, and leaves the line open.
+pub fn read_open(text: &[u8], list: &mut [i32]) -> TextRead {
+    say(b"read ");
+    say_quoted(text, 0, text.len());
+    say(b" ->");
+    let answer = dimacs::read_text(text, list);
+    let outcome = answer.outcome;
+    tell_read(outcome, list);
+    outcome
 }

@@ -1,6 +1,6 @@
 // Edge cases of the reader: what the tokens make together (15, 19, 7). Assumes nothing.
-use crate::run::group;
 use crate::run::read;
+use show::group;
 
 pub fn run_all() {
     clauses();

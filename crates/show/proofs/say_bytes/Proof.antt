@@ -1,9 +1,9 @@
--- `samples::show::say_bytes` is safe and ends: the measure is how many bytes are left up to `to`. Nothing has to
+-- `show::say_bytes` is safe and ends: the measure is how many bytes are left up to `to`. Nothing has to
 -- hold from turn to turn. Assumes nothing.
 use Prim.Native.Nat.{_-_}
 use borrow.Author.Needs.{needs}
-use Rattle.samples.proofs.show.say_bytes.Statement.{statement}
-use Rattle.samples.proofs.show.say_bytes.Tie as tie
+use Rattle.show.proofs.say_bytes.Statement.{statement}
+use Rattle.show.proofs.say_bytes.Tie as tie
 
 abbrev Inv-loop : tie.InvT-loop
 Inv-loop text from to k₀ k = Unit {0}

@@ -1,6 +1,6 @@
 // Edge cases of the writer (16, 14, 15, 7). Assumes nothing.
-use crate::run::group;
 use crate::run::write;
+use show::group;
 
 pub fn run_all() {
     literals();

@@ -1,9 +1,9 @@
--- `samples::show::say_words` is safe and ends: the measure is how many words are left up to `to`. Nothing has to
+-- `show::say_words` is safe and ends: the measure is how many words are left up to `to`. Nothing has to
 -- hold from turn to turn. Assumes nothing.
 use Prim.Native.Nat.{_-_}
 use borrow.Author.Needs.{needs}
-use Rattle.samples.proofs.show.say_words.Statement.{statement}
-use Rattle.samples.proofs.show.say_words.Tie as tie
+use Rattle.show.proofs.say_words.Statement.{statement}
+use Rattle.show.proofs.say_words.Tie as tie
 
 abbrev Inv-loop : tie.InvT-loop
 Inv-loop words from to k₀ k = Unit {0}

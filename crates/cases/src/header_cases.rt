@@ -1,6 +1,6 @@
 // Edge cases of the reader: the lines before the tokens (17, 16). Assumes nothing.
-use crate::run::group;
 use crate::run::read;
+use show::group;
 
 pub fn run_all() {
     comment_lines();
