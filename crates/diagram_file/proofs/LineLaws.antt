@@ -64,7 +64,7 @@ unfolding isDecimal allDigits plain
 decimal-pos [] h = let z : _≡_ {A = ℕ} 0 1 = cc in absurd (omega arith)
 decimal-pos (d ∷ ds) h = omega arith
 
--- ---- what stands at a place, and what is read there
+-- ---- what stands from an index of the text on, and what is read there
 
 module _ (text key : List ℕ) (at : ℕ) where
   -- the key, the decimal ds of a value, a line feed, and the rest

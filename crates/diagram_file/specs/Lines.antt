@@ -1,5 +1,5 @@
--- The lines of a text, and the form of a line that gives a value. Lines count from 0 here, and places are those of the text's
--- bytes. Assumes nothing.
+-- The lines of a text, and the form of a line that gives a value. Lines, and the bytes of a text, count from 0 here. Assumes
+-- nothing.
 use mathlib.Core.Path.{_≡_}
 use mathlib.Core.Bool.{Bool, true, cond, _&&_}
 use mathlib.Core.List.{List, [], _∷_, _++_}
@@ -48,7 +48,7 @@ module _ (text : List ℕ) where
   abbrev pub readAfter : List ℕ → ℕ → Reading
   readAfter key at = readingAt text (at + length key)
 
-  -- the key, a value and a line feed stand at a place
+  -- the key, a value and a line feed stand from an index of the text on
   unfoldable pub formedAt : List ℕ → ℕ → Bool
   formedAt key at = hasAt text at key && (fieldAt text (readAfter key at) lineFeed && leb (readAfter key at .value) mostValue)
 

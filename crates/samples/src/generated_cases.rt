@@ -29,13 +29,21 @@ fn tell_named(name: &[u8], counts: &Counts, what: usize) {
     show::say_named(name, counts::count(counts, what) as u64);
 }
 
+// The same where there is something to tell.
+fn tell_some(name: &[u8], counts: &Counts, what: usize) {
+    if counts::count(counts, what) == 0 {
+        return;
+    }
+    tell_named(name, counts, what);
+}
+
 // One line for a run.
 fn tell(name: &[u8], counts: &Counts) {
     show::say(name);
     tell_named(b": compared=", counts, counts::COMPARED);
-    tell_named(b" words=", counts, counts::WORDS);
-    tell_named(b" allowed=", counts, counts::ALLOWED);
-    tell_named(b" passed=", counts, 0);
+    tell_some(b" words=", counts, counts::WORDS);
+    tell_some(b" allowed=", counts, counts::ALLOWED);
+    tell_some(b" passed=", counts, 0);
     tell_numbers(counts);
     tell_named(b" differ=", counts, counts::DIFFER);
     show::say(b"\n");

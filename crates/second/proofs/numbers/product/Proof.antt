@@ -1,6 +1,5 @@
 -- `second::numbers::product` is safe and ends: both factors are below the limit, whose square is what a number holds.
 -- Assumes nothing.
-use Prim.Native.Nat.{_*_, _≤_}
 use native.Mathlib.Nat.{mul-le-mul-left}
 use native.Mathlib.Omega.{arith}
 use borrow.Author.Needs.{needs}
