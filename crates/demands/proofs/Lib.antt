@@ -1,4 +1,5 @@
 -- The theorems of the demands, and the samples. Assumes nothing.
+pub mod Demand1
 pub mod Flat
 pub mod Orders
 pub mod Meaning

@@ -1,4 +1,5 @@
 -- What this crate defines. Assumes nothing.
+pub mod Demand1
 pub mod Demand2
 pub mod HalfFinished
 pub mod Demand3

@@ -10,13 +10,14 @@ use borrow.Author.Tests.{ltb-true, ltb-false}
 use Rattle.lists.proofs.FirstLaws.{tests-at}
 use Rattle.lists.specs.Buffer.{over}
 use Rattle.lists.proofs.BufferLaws.{over-parts}
-use Rattle.refusal.specs.Rules.{refusal, chain}
-use Rattle.refusal.specs.Table.{ExactlyInTurn}
+use Rattle.refusal.specs.Rules.{roomRule, chain}
+use Rattle.refusal.specs.Table.{roomRow, ExactlyWhen, ExactlyInTurn}
+use Rattle.refusal.specs.declared.Refusal.{Refusal}
 use Rattle.refusal.specs.declared.Verdict.{Verdict}
 use Rattle.refusal.specs.declared.Verdict.the-variants as verdict
 use Rattle.refusal.proofs.TableLaws.{Faithful, faithful-append, exactly-in-turn}
 use Rattle.refusal.proofs.RulesLaws.{passed}
-use Rattle.refusal.proofs.RoomLaws.{long-enough}
+use Rattle.refusal.proofs.RoomLaws.{room-faithful, long-enough}
 use Rattle.refusal.proofs.AnsweredLaws.{Told, told}
 use Rattle.clauses.proofs.WellListed.{edition1-listed}
 use Rattle.dimacs.proofs.WriterLaws.{text-most}
@@ -25,7 +26,7 @@ use Rattle.diagram_file.specs.File.{fileDiagram}
 use Rattle.diagram_file.specs.Rules.{fileRules}
 use Rattle.diagram_file.proofs.FileLaws.{file-faithful}
 use Rattle.desk.specs.Output.{mostBytes, mostSizes, mostWords, edition, listRules, linesRules, deskRules, deskTable, diagramText, refusalLines, printing, printed}
-use Rattle.desk.specs.Promise.{outcomeOf, PrintedBy, DeskPromise, Prints, desk-said-once}
+use Rattle.desk.specs.Promise.{deskSaid, outcomeOf, PrintedBy, DeskPromise, Prints, desk-said-once}
 use Rattle.desk.specs.declared.DeskRun.the-variants as run
 use Rattle.desk.specs.declared.DeskAnswer.{DeskAnswer}
 use Rattle.desk.proofs.PrintLaws.{lines-most}
@@ -77,3 +78,20 @@ module _ (input : List ℕ) where
       let w = fits (chain (deskRules input)) _ before answer after p (omega (arith, short (chain (deskRules input)) refl)) in
       let o = over-parts (printed input) before refl (w .1) in
       record { answered = w .0; the-bytes = o .0; the-rest = o .1 }
+
+-- ---- a buffer that is too short
+
+tells : (v : Verdict) (text before : List ℕ) (answer : DeskAnswer) (after : List ℕ) → PrintedBy v text before answer after
+    → Told deskSaid run.Refused (roomRule (length (printing v text)) (length before) ∷ []) (deskSaid (outcomeOf v (length (printing v text))) .values) (over (printing v text) before) before (answer .outcome) after
+tells verdict.Passed text before answer after p = told deskSaid desk-said-once run.Refused (λ r. refl) p
+tells (verdict.Refused r) text before answer after p = told deskSaid desk-said-once run.Refused (λ r. refl) p
+
+module _ (input before : List ℕ) (answer : DeskAnswer) (after : List ℕ) (promise : DeskPromise input before answer after) where
+  -- number 7 is answered exactly when what is to be printed does not fit, and no other number is
+  pub short-exactly-when : ExactlyWhen (roomRow (length (printed input)) (length before) ∷ []) (λ r. answer .outcome ≡ run.Refused r)
+  unfolding printed
+  short-exactly-when = tells (chain (deskRules input)) _ before answer after promise .told-when (roomRow (length (printed input)) (length before) ∷ []) (room-faithful (length (printed input)) (length before)) tt
+
+  -- and then the buffer is kept
+  pub short-keeps : (r : Refusal) → answer .outcome ≡ run.Refused r → after ≡ before
+  short-keeps = tells (chain (deskRules input)) _ before answer after promise .told-keeps
