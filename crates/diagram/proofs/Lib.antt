@@ -1,6 +1,7 @@
 -- The laws of this crate that others cite. Assumes nothing.
 pub mod ShapedLaws
 pub mod RangeLaws
+pub mod SpanLaws
 pub mod SoundLaws
 pub mod NumberLaws
 pub mod AllowsLaws

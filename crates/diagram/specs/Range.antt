@@ -3,7 +3,7 @@
 use mathlib.Core.Path.{_≡_}
 use mathlib.Core.Bool.{Bool, not, _&&_, _||_}
 use mathlib.Core.List.{List}
-use Prim.Native.Nat.{ℕ, _≤_, _<_}
+use Prim.Native.Nat.{ℕ, _+_, _≤_, _<_}
 use lib.ListN.{length, getD}
 use lib.Dec.{ltb, leb}
 use Rattle.diagram.specs.Lent.{Lent}
@@ -28,6 +28,11 @@ pub record LayerEnd (ls : List ℕ) (from i end : ℕ) : Type 0 where
 -- a reference that is none of the range
 abbrev pub stray : Range → ℕ → Bool
 stray r t = not (ltb t (r .ends)) && (ltb t (r .low) || leb (r .high) t)
+
+-- of the first k targets none is above `most`, and none that is `ends` or more is below `ends` and `from` more
+pub record Spans (ends : ℕ) (part : List ℕ) (k from most : ℕ) : Type 0 where
+  pub least : (j : ℕ) → j < k → ends ≤ getD part j 0 → ends + from ≤ getD part j 0
+  pub highest : (j : ℕ) → j < k → getD part j 0 ≤ most
 
 -- the range is where edges of layer i may lead
 abbrev pub RangeOf : Lent → ℕ → Range → Type 0

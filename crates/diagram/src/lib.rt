@@ -3,7 +3,7 @@ use lists::Found;
 use refusal::Refusal;
 use refusal::Verdict;
 ghost use mathlib.Core.Path.{_≡_};
-ghost use mathlib.Core.Bool.{cond};
+ghost use mathlib.Core.Bool.{true, cond};
 ghost use mathlib.Core.List.{[]};
 ghost use Prim.Native.Nat.{ℕ, _+_, _-_, _≤_, _<_};
 ghost use lib.ListN.{length, getD};
@@ -15,7 +15,7 @@ ghost use Rattle.diagram.specs.Lent.{lent, options, nodes, layer, firstE
 ghost use Rattle.diagram.specs.Sound.{Shaped};
 ghost use Rattle.diagram.specs.Rules.{outside, breaksRule, badDomain, badLayer, badTarget, optionRules, nodeRules, targetRules, checkRules};
 ghost use Rattle.diagram.specs.Numbers.{valueNumber, referenceNumber, edgeNumber, lastNumber, values};
-ghost use Rattle.diagram.specs.Range.{Rising, NoneAbove, LayerEnd, stray, RangeOf};
+ghost use Rattle.diagram.specs.Range.{Rising, NoneAbove, LayerEnd, stray, Spans, RangeOf};
 ghost use Rattle.diagram.specs.Promise.{CheckPromise};
 
 // A sound diagram's counts: options (n), nodes (s), values (D) and edges (E).
@@ -285,20 +285,47 @@ fn is_stray(range: Range, t: u32) -> bool
     range.high <= t
 }
 
-// How many of a layer's targets stray: counted to the end, and never left early.
-fn count_strays(range: Range, part: &[u32]) -> u32
-    requires { ⌜ length (now part) ≤ 131072 ⌝ }
-    ensures { λ r. ⌜ r ≡ countTo (length (now (part .entry))) (λ (j : ℕ). stray range (getD (now (part .entry)) j 0)) ⌝ }
+// How far a layer's targets spread: none is above `most`, and none from `ends` on is nearer to it than `least`.
+struct Span {
+    least: u32,
+    most: u32,
+}
+
+fn lesser(a: u32, b: u32) -> u32
+    ensures { λ r. ⌜ (r ≤ a) × (r ≤ b) ⌝ }
 {
-    let mut n: u32 = 0;
+    if a < b { a } else { b }
+}
+
+fn greater(a: u32, b: u32) -> u32
+    ensures { λ r. ⌜ (a ≤ r) × (b ≤ r) ⌝ }
+{
+    if a < b { b } else { a }
+}
+
+// Gone through to the end, and never left early.
+fn span_of(ends: u32, part: &[u32]) -> Span
+    ensures { λ r. ⌜ Spans ends (now (part .entry)) (length (now (part .entry))) (r .least) (r .most) ⌝ }
+{
+    let mut least: u32 = 4294967295;
+    let mut most: u32 = 0;
     let mut j = 0;
     while j < part.len() {
-        if is_stray(range, part[j]) {
-            n += 1;
-        }
+        let t = part[j];
+        least = lesser(least, std::num::wrapping_sub_u32(t, ends));
+        most = greater(most, t);
         j += 1;
     }
-    n
+    Span { least, most }
+}
+
+fn keeps_to(range: Range, span: Span) -> bool
+    ensures { λ r. ⌜ (r ≡ true → (range .low ≤ range .ends + span .least) × (span .most < range .high)) ⌝ }
+{
+    if range.high <= span.most {
+        return false;
+    }
+    range.low as u64 <= range.ends as u64 + span.least as u64
 }
 
 fn search_stray(range: Range, part: &[u32]) -> Found
@@ -314,12 +341,11 @@ fn search_stray(range: Range, part: &[u32]) -> Found
     Found::Nothing
 }
 
-// The first stray target: searched for only where the count is not 0.
+// The first stray target: searched for only where the targets spread beyond the range.
 fn first_stray(range: Range, part: &[u32]) -> Found
-    requires { ⌜ length (now part) ≤ 131072 ⌝ }
     ensures { λ r. ⌜ r ≡ first (λ (j : ℕ). stray range (getD (now (part .entry)) j 0)) (length (now (part .entry))) ⌝ }
 {
-    if count_strays(range, part) == 0 {
+    if keeps_to(range, span_of(range.ends, part)) {
         return Found::Nothing;
     }
     search_stray(range, part)

@@ -1,7 +1,7 @@
--- `diagram::first_stray` meets its contract: where the count is 0 a search finds nothing. Assumes nothing.
-use mathlib.Core.Path.{sym, _∙_}
+-- `diagram::first_stray` meets its contract: where the targets keep to the range a search finds nothing. Assumes nothing.
+use mathlib.Core.Path.{sym}
 use borrow.Author.Needs.{needs}
-use Rattle.lists.proofs.FirstLaws.{count-none}
+use Rattle.diagram.proofs.SpanLaws.{keeping}
 use Rattle.diagram.proofs.first_stray.Statement.{statement}
 use Rattle.diagram.proofs.first_stray.Tie as tie
 
@@ -10,6 +10,7 @@ first-stray-spec =
     tie.close
     (tie.spec
     (λ c κs. search needs)
-    (λ c. sym (count-none _ _ (sym (c .before .count-strays .ensures) ∙ c .if1 .taken)))
+    (λ c κs. search needs)
+    (λ c. let k = c .before in let b = k .keeps-to .ensures (c .if1 .taken) in sym (keeping _ _ (k .before .span-of .ensures) (b .0) (b .1)))
     (λ c κs. search needs)
     (λ c. c .search-stray .ensures))
