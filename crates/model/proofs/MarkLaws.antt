@@ -1,26 +1,28 @@
 -- The marks follow the model, literal by literal; and what they say of an option. Assumes nothing.
-use mathlib.Core.Path.{_≡_, refl, sym, _∙_, ap}
+use mathlib.Core.Path.{_≡_, refl, sym, _∙_, ap, subst}
 use mathlib.Core.Bool.{Bool, true, false, not, cond, _&&_}
 use mathlib.Core.List.{List, [], _∷_}
-use Prim.Native.Nat.{ℕ, suc, _+_, _-_, _≤_, _<_}
+use Prim.Native.Nat.{ℕ, zero, suc, _+_, _-_, _≤_, _<_}
+use native.Mathlib.Nat.{add-zero}
 use native.Mathlib.Numerals.{add-one}
 use native.Mathlib.Omega.{arith}
 use lib.Dec.{leb, eqb}
-use lib.IntN.{ℤ}
-use lib.ListN.{length, getD, set, length-set, replicate, length-replicate, getD-replicate}
-use lib.Seq.{getD-set-same, getD-set-other}
-use borrow.Author.Tests.{le-leb, leb-true, eqb-true, eqb-false, not-false}
+use lib.IntN.{ℤ, pos}
+use lib.ListN.{length, getD, set, take, drop, length-set, length-drop, replicate, length-replicate, getD-replicate}
+use lib.Seq.{getD-set-same, getD-set-other, length-take-le, getD-take, getD-drop}
+use borrow.Author.Tests.{le-leb, lt-leb, leb-true, ltb-true, ne-eqb, eqb-true, eqb-false, not-false}
 use Rattle.lists.specs.Upto.{countTo, lastTo}
 use Rattle.lists.specs.First.{first, sole}
+use Rattle.lists.specs.Signed.{beyond}
 use Rattle.lists.specs.declared.Found.the-variants.{Nothing, At}
 use Rattle.lists.proofs.UptoLaws.{list-same, last-agrees}
-use Rattle.lists.proofs.FirstLaws.{if-none, if-at, first-agrees, count-agrees, count-one}
+use Rattle.lists.proofs.FirstLaws.{if-none, if-at, none-bad, bad-none, on-none, first-agrees, count-agrees, count-none, count-one}
 use Rattle.diagram.specs.Lent.{Lent, options, domain}
 use Rattle.diagram.specs.Numbers.{firstValue, values}
 use Rattle.diagram.proofs.NumberLaws.{value-sums}
 use Rattle.model.specs.Model.{literal, variable}
 use Rattle.model.specs.Rules.{markOf, mark, again, hasValue, unclear, valueOf, valuesTo, namesTrue, buildOf}
-use Rattle.model.specs.Marks.{isMarked, noted, Marks, markedTrue}
+use Rattle.model.specs.Marks.{valueAt, isMarked, noted, Marks, NotedTo, markedTrue}
 
 -- before the first literal there are none
 pub no-marks : (D : ℕ) (m : List ℤ) → D ≤ 2048 → Marks D m 0 (replicate 2048 0)
@@ -62,6 +64,36 @@ module _ {D : ℕ} {m : List ℤ} {k : ℕ} {ms : List ℕ} (marks : Marks D m k
           let z : variable m k - 1 ≡ u = omega arith in
           rw (le-leb (variable m k) D (omega arith), free (omega arith), z) (getD-set-same ms u (markOf (literal m k)) 0 (omega (arith, marks .whole)))
       go u h false q = other (leb (variable m k) D && eqb (getD ms (variable m k - 1) 0) 0) (markOf (literal m k)) u (eqb-false (variable m k) (suc u) q) ∙ marks .said u h
+
+-- ---- a stretch that names no value variable changes nothing
+
+module _ (D : ℕ) (m : List ℤ) (a : ℕ) where
+  same-mark : (n u : ℕ) → u < D → ((j : ℕ) → j < n → D < variable m (a + j)) → mark m (a + n) (suc u) ≡ mark m a (suc u)
+  unfolding mark
+  same-mark zero u h far = rw (add-zero a)
+  same-mark (suc n) u h far =
+      let l : D < variable m (a + n) = far n (omega arith) in
+      let e : a + suc n ≡ suc (a + n) = omega arith in
+      rw (e, ne-eqb (variable m (a + n)) (suc u) (λ q. omega arith)) (same-mark n u h (λ j k. far j (omega arith)))
+
+  pub noted-on : {ms : List ℕ} (n : ℕ) → NotedTo D m a ms → ((j : ℕ) → j < n → D < variable m (a + j)) → NotedTo D m (a + n) ms
+  unfolding again
+  noted-on n w far = (
+    on-none (again D m) a (w .0) n (bad-none (λ j. again D m (a + j)) n (λ j h. rw (lt-leb (variable m (a + j)) D (far j h)))),
+    record { whole = w .1 .whole; said = λ u h. w .1 .said u h ∙ sym (same-mark n u h far) },
+  )
+
+-- so does a block, the part from a to before e, where the count is 0
+pub noted-past : (D : ℕ) (m : List ℤ) (a e : ℕ) {ms : List ℕ} → a ≤ e → e ≤ length m → countTo (length (take (e - a) (drop a m))) (valueAt D (take (e - a) (drop a m))) ≡ 0 → NotedTo D m a ms → NotedTo D m e ms
+noted-past D m a e {ms} l h count w = let q : a + (e - a) ≡ e = omega arith in subst (λ (k : ℕ). NotedTo D m k ms) q (noted-on D m a (e - a) w far)
+  where
+    far : (j : ℕ) → j < e - a → D < variable m (a + j)
+    far j k =
+        let part = take (e - a) (drop a m) in
+        let whole : length part ≡ e - a = length-take-le (e - a) (drop a m) (omega (arith, length-drop a m)) in
+        let none = none-bad (valueAt D part) (length part) (count-none (valueAt D part) (length part) count) j (omega arith) in
+        let same : literal part j ≡ literal m (a + j) = getD-take (e - a) (drop a m) j (pos 0) k ∙ getD-drop a m j (pos 0) in
+        ltb-true D (variable m (a + j)) (rw same at (not-false (beyond D (literal part j)) none))
 
 -- ---- an option's value
 

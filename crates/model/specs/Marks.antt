@@ -7,9 +7,19 @@ use Prim.Native.Nat.{ℕ, suc, _-_, _<_}
 use lib.Dec.{leb, eqb}
 use lib.IntN.{ℤ}
 use lib.ListN.{length, getD, set}
+use Rattle.lists.specs.First.{first}
+use Rattle.lists.specs.Signed.{beyond}
+use Rattle.lists.specs.declared.Found.the-variants.{Nothing}
 use Rattle.diagram.specs.Sound.{Within}
-use Rattle.model.specs.Model.{variable}
-use Rattle.model.specs.Rules.{mark}
+use Rattle.model.specs.Model.{literal, variable}
+use Rattle.model.specs.Rules.{mark, again}
+
+-- a literal names a variable up to D
+abbrev pub namesValue : ℕ → ℤ → Bool
+namesValue D l = not (beyond D l)
+
+abbrev pub valueAt : ℕ → List ℤ → ℕ → Bool
+valueAt D m k = namesValue D (literal m k)
 
 -- the variable x is one up to D, and has a mark
 unfoldable pub isMarked : ℕ → ℕ → List ℕ → Bool
@@ -23,6 +33,10 @@ noted D x k ms = cond (leb x D && eqb (getD ms (x - 1) 0) 0) (set ms (x - 1) k) 
 pub record Marks (D : ℕ) (m : List ℤ) (k : ℕ) (ms : List ℕ) : Type 0 where
   pub whole : length ms ≡ 2048
   pub said : (u : ℕ) → u < D → getD ms u 0 ≡ mark m k (suc u)
+
+-- none of the first k literals names a variable up to D again, and the marks are what they say
+abbrev pub NotedTo : ℕ → List ℤ → ℕ → List ℕ → Type 0
+NotedTo D m k ms = (first (again D m) k ≡ Nothing) × Marks D m k ms
 
 -- the variable u + 1 is marked true
 abbrev pub markedTrue : List ℕ → ℕ → Bool

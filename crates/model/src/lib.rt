@@ -22,7 +22,7 @@ ghost use Rattle.judge.specs.Build.{Fits};
 ghost use Rattle.judge.specs.Promise.{allowsTest};
 ghost use Rattle.clauses.specs.Clauses.{edition1, lastVariable};
 ghost use Rattle.model.specs.Rules.{badLiteral, badAt, markOf, mark, again, unclear, valuesTo, buildOf, valueRules, literalRules, soundRules};
-ghost use Rattle.model.specs.Marks.{isMarked, noted, Marks, markedTrue, Ranged};
+ghost use Rattle.model.specs.Marks.{namesValue, valueAt, isMarked, noted, Marks, NotedTo, markedTrue, Ranged};
 ghost use Rattle.model.specs.Promise.{ReadBy, ModelPromise};
 
 pub enum ModelRead {
@@ -38,6 +38,9 @@ pub struct ModelAnswer {
 const VALUES: usize = (Diagram::MAX_OPTIONS * Diagram::MAX_DOMAIN) as usize;
 
 const OPTIONS: usize = Diagram::MAX_OPTIONS as usize;
+
+// As many literals are counted together.
+const BLOCK: usize = 64;
 
 // ---- number 10
 
@@ -131,15 +134,50 @@ fn note(marks: &mut [u8; VALUES], values: usize, x: usize, mark: u8) -> bool
     false
 }
 
-// The first literal that names a value variable again; where there is none, the marks say what the model says.
-fn first_again(literals: &[i32], values: usize, marks: &mut [u8; VALUES]) -> Found
-    requires { ⌜ (values ≤ 2048) × Ranged (now literals) ⌝ }
-    requires { ⌜ Marks values (now literals) 0 (now marks) ⌝ }
-    ensures { λ r. ⌜ r ≡ first (again values (now (literals .entry))) (length (now (literals .entry))) ⌝ }
-    ensures { λ r. ⌜ (r ≡ Found.Nothing → Marks values (now (literals .entry)) (length (now (literals .entry))) (now (marks .exit))) ⌝ }
+// Whether a literal names a value variable, true or false: it is one from -D to D (and 0 is number 10's).
+fn names_value(literal: i32, values: u32) -> bool
+    requires { ⌜ values ≤ 2048 ⌝ }
+    ensures { λ r. ⌜ r ≡ namesValue values literal ⌝ }
 {
-    let mut k = 0;
-    while k < literals.len() {
+    let top = values as i32;
+    if top < literal {
+        return false;
+    }
+    !(literal < -top)
+}
+
+// How many literals of a block name a value variable: counted to the end, as the bad ones are, and never left early.
+fn count_values(block: &[i32], values: u32) -> u32
+    requires { ⌜ (values ≤ 2048) × (length (now block) ≤ 64) ⌝ }
+    ensures { λ r. ⌜ r ≡ countTo (length (now (block .entry))) (valueAt values (now (block .entry))) ⌝ }
+{
+    let mut n: u32 = 0;
+    let mut j = 0;
+    while j < block.len() {
+        if names_value(block[j], values) {
+            n += 1;
+        }
+        j += 1;
+    }
+    n
+}
+
+// The first literal before `end` that names a value variable again, where none before `from` does and the marks say what
+// those say; where there is none, the marks say what all before `end` say.
+fn search_again(
+    literals: &[i32],
+    from: usize,
+    end: usize,
+    values: usize,
+    marks: &mut [u8; VALUES],
+) -> Found
+    requires { ⌜ (values ≤ 2048) × Ranged (now literals) × (from ≤ end) × (end ≤ length (now literals)) ⌝ }
+    requires { ⌜ NotedTo values (now literals) from (now marks) ⌝ }
+    ensures { λ r. ⌜ r ≡ first (again values (now (literals .entry))) end ⌝ }
+    ensures { λ r. ⌜ (r ≡ Found.Nothing → Marks values (now (literals .entry)) end (now (marks .exit))) ⌝ }
+{
+    let mut k = from;
+    while k < end {
         let literal = literals[k];
         if note(
             marks,
@@ -150,6 +188,51 @@ fn first_again(literals: &[i32], values: usize, marks: &mut [u8; VALUES]) -> Fou
             return Found::At(k);
         }
         k += 1;
+    }
+    Found::Nothing
+}
+
+// The same of one block: searched only where the count is not 0.
+fn again_in_block(
+    literals: &[i32],
+    from: usize,
+    end: usize,
+    values: usize,
+    marks: &mut [u8; VALUES],
+) -> Found
+    requires { ⌜ (values ≤ 2048) × Ranged (now literals) × (from ≤ end) × (end ≤ length (now literals)) × (end ≤ from + 64) ⌝ }
+    requires { ⌜ NotedTo values (now literals) from (now marks) ⌝ }
+    ensures { λ r. ⌜ r ≡ first (again values (now (literals .entry))) end ⌝ }
+    ensures { λ r. ⌜ (r ≡ Found.Nothing → Marks values (now (literals .entry)) end (now (marks .exit))) ⌝ }
+{
+    if count_values(&literals[from..end], values as u32) == 0 {
+        return Found::Nothing;
+    }
+    search_again(literals, from, end, values, marks)
+}
+
+// Where the block ends that begins at `from`, where there are n literals: each has 64, but for the last.
+fn block_end(from: usize, n: usize) -> usize
+    requires { ⌜ from < n ⌝ }
+    ensures { λ r. ⌜ (from < r) × (r ≤ n) × (r ≤ from + 64) ⌝ }
+{
+    if n - from < BLOCK { n } else { from + BLOCK }
+}
+
+// The first literal that names a value variable again; where there is none, the marks say what the model says.
+fn first_again(literals: &[i32], values: usize, marks: &mut [u8; VALUES]) -> Found
+    requires { ⌜ (values ≤ 2048) × Ranged (now literals) ⌝ }
+    requires { ⌜ Marks values (now literals) 0 (now marks) ⌝ }
+    ensures { λ r. ⌜ r ≡ first (again values (now (literals .entry))) (length (now (literals .entry))) ⌝ }
+    ensures { λ r. ⌜ (r ≡ Found.Nothing → Marks values (now (literals .entry)) (length (now (literals .entry))) (now (marks .exit))) ⌝ }
+{
+    let mut k = 0;
+    while k < literals.len() {
+        let end = block_end(k, literals.len());
+        if let Found::At(j) = again_in_block(literals, k, end, values, marks) {
+            return Found::At(j);
+        }
+        k = end;
     }
     Found::Nothing
 }
