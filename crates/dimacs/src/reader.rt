@@ -90,6 +90,9 @@ fn read_header(text: &[u8], at: usize) -> Header
 fn is_gap(b: u8) -> bool
     ensures { λ r. ⌜ r ≡ isGap b ⌝ }
 {
+    if b' ' < b {
+        return false;
+    }
     if b == b' ' {
         return true;
     }
