@@ -13,6 +13,7 @@ mod read_model;
 mod read_text;
 mod write_text;
 
+mod header;
 mod meaning;
 mod round_trip;
 mod samples;
