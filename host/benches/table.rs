@@ -1,6 +1,7 @@
 //! One table of times: every call of the library at three sizes, beside the
-//! same call in plain Rust and a bare copy of its result; for reading clause
-//! text also the solvers' own readers. Run by `cargo bench`.
+//! same call in plain Rust, tuned and as usually written, and a bare copy of
+//! its result; for reading clause text also the solvers' own readers. Run by
+//! `cargo bench`.
 
 #[path = "table/calls.rs"]
 mod calls;
@@ -28,26 +29,31 @@ const CALLS: [Call; 6] = [
     ("text in", Case::text_in),
 ];
 
-const HEADS: [&str; 8] = [
+const HEADS: [&str; 10] = [
     "call",
     "nodes",
     "ours",
     "plain",
     "ours/plain",
+    "usual",
+    "ours/usual",
     "copy",
     "CaDiCaL",
     "MiniSat",
 ];
-const WIDTHS: [usize; 8] = [8, 5, 9, 9, 10, 9, 14, 14];
+const WIDTHS: [usize; 10] = [8, 5, 9, 9, 10, 9, 10, 9, 14, 14];
 
 const NOTES: &str = "
-Medians of rounds in which ours, plain and the copy take turns. The buffer of
-a result is lent once, exactly as long as the result, warm, shared by the three
-and not cleared between runs. Copy: a copy of the result between two buffers.
-CaDiCaL, MiniSat: their own parse time on the same text, best of five runs, told
-by them in hundredths of a second, and where that suffices how many times ours
-it is; a dash where there is none. Every option has 32 values; half of the edges
-go to F at random. Ours and plain gave equal results before they were timed.";
+Medians of rounds in which ours, plain, usual and the copy take turns. Plain: the
+same work as fast as plain Rust was found to do it, many words or bytes at once.
+Usual: the same work as a good engineer would usually write it: safe Rust,
+literal by literal, word by word, token by token. The buffer of a result is lent
+once, exactly as long as the result, warm, shared by all of them and not cleared
+between runs. Copy: a copy of the result between two buffers. CaDiCaL, MiniSat:
+their own parse time on the same text, best of five runs, told by them in
+hundredths of a second, and where that suffices how many times ours it is. A dash
+where there is none. Every option has 32 values; half of the edges go to F at
+random. Ours, plain and usual gave equal results before they were timed.";
 
 fn main() {
     let cases = SIZES.map(|(options, nodes)| Case::new(options, nodes));
@@ -76,7 +82,10 @@ fn print_row(call: &str, nodes: u32, cell: &Cell) {
         nodes.to_string(),
         time(cell.ours),
         time(cell.plain),
-        format!("{:.2}", cell.ours / cell.plain),
+        ratio(cell.ours, cell.plain),
+        cell.usual.map_or("-".into(), time),
+        cell.usual
+            .map_or("-".into(), |usual| ratio(cell.ours, usual)),
         cell.copy.map_or("-".into(), time),
         cadical,
         minisat,
@@ -84,7 +93,7 @@ fn print_row(call: &str, nodes: u32, cell: &Cell) {
 }
 
 /// One line of the table: the name to the left, numbers to the right.
-fn print_line(entries: [String; 8]) {
+fn print_line(entries: [String; 10]) {
     let mut line = format!("| {:<1$} |", entries[0], WIDTHS[0]);
     for (entry, width) in entries.iter().zip(WIDTHS).skip(1) {
         line += &format!(" {entry:>width$} |");
@@ -99,6 +108,11 @@ fn time(nanoseconds: f64) -> String {
         t if t < 1e6 => format!("{:.1} us", t / 1e3),
         t => format!("{:.2} ms", t / 1e6),
     }
+}
+
+/// How many times another time ours is.
+fn ratio(ours: f64, other: f64) -> String {
+    format!("{:.2}", ours / other)
 }
 
 /// A solver's parse time and how many times ours it is, unless it is so short

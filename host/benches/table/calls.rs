@@ -1,5 +1,6 @@
-//! Every call of the library, timed beside the same call in plain Rust and a
-//! bare copy of its result, all three by turns in the same buffer.
+//! Every call of the library, timed beside the same call in plain Rust, tuned
+//! and (three of them) as usually written, and a bare copy of its result, all
+//! by turns in the same buffer.
 
 use crate::skid::{satisfies, Skid};
 use crate::solvers::{CADICAL, MINISAT};
@@ -7,9 +8,10 @@ use crate::timing::by_turns;
 use std::hint::black_box;
 use std::path::Path;
 
-/// The variants of a call; any further one is the copy.
+/// The variants of a call; the one between plain and usual is the copy.
 const OURS: usize = 0;
 const PLAIN: usize = 1;
+const USUAL: usize = 3;
 
 /// The times of one call at one size, in nanoseconds.
 pub struct Cell {
@@ -17,6 +19,7 @@ pub struct Cell {
     pub input: usize,
     pub ours: f64,
     pub plain: f64,
+    pub usual: Option<f64>,
     pub copy: Option<f64>,
     /// CaDiCaL's and MiniSat's own time for the same, in seconds.
     pub solvers: [Option<f64>; 2],
@@ -30,6 +33,7 @@ impl Cell {
             input,
             ours,
             plain,
+            usual: None,
             copy: None,
             solvers: [None; 2],
         }
@@ -42,13 +46,27 @@ impl Cell {
             input,
             ours,
             plain,
+            usual: None,
+            copy: Some(copy),
+            solvers: [None; 2],
+        }
+    }
+
+    /// A call with a result that is written as usual, too.
+    fn with_usual(input: usize, run: impl FnMut(usize)) -> Cell {
+        let [ours, plain, copy, usual] = by_turns(run);
+        Cell {
+            input,
+            ours,
+            plain,
+            usual: Some(usual),
             copy: Some(copy),
             solvers: [None; 2],
         }
     }
 }
 
-/// One size's inputs, and the results that both sides must give.
+/// One size's inputs, and the results that all sides must give.
 pub struct Case {
     skid: Skid,
     model: Vec<i32>,
@@ -83,16 +101,17 @@ impl Case {
         self.skid.domains.len() + self.skid.layers.len() + self.skid.targets.len()
     }
 
-    /// Holds the answers and results of both sides against each other.
+    /// Holds the answers and results of all sides against each other.
     pub fn compare(&self) {
         let (ours, plain) = (our_diagram(&self.skid), plain_diagram(&self.skid));
         assert_eq!(binnaclebox::check(&ours), Ok(()));
         assert_eq!(plain::check(&plain), Ok(()));
         assert_eq!(binnaclebox::judge(&ours, &self.skid.build), Ok(true));
         assert_eq!(plain::judge(&plain, &self.skid.build), Ok(true));
-        let mut builds = [(); 2].map(|_| vec![0; self.skid.build.len()]);
+        let mut builds = [(); 3].map(|_| vec![0; self.skid.build.len()]);
         binnaclebox::read_model(&ours, &self.model, &mut builds[OURS]).unwrap();
         plain::read_model(&plain, &self.model, &mut builds[PLAIN]).unwrap();
+        plain::usual::read_model(&plain, &self.model, &mut builds[2]).unwrap();
         assert!(builds.iter().all(|build| *build == self.skid.build));
         let mut words = vec![0; self.words.len()];
         let counts = binnaclebox::encode(&ours, &mut words).unwrap();
@@ -100,12 +119,17 @@ impl Case {
         let mut text = vec![0; self.text.len()];
         let written = binnaclebox::write_text(self.variables, &words, &mut text);
         assert!(text == self.text && written == Ok(text.len()));
+        text.fill(0);
+        let written = plain::usual::write_text(self.variables, &words, &mut text);
+        assert!(text == self.text && written == Ok(text.len()));
         words.fill(0);
         let read = binnaclebox::read_text(&text, &mut words).unwrap();
         assert!(words == self.words && read == counts);
-        words.fill(0);
-        let read = plain::read_text(&text, &mut words).unwrap();
-        assert!(words == self.words && read.clauses == counts.clauses);
+        for read_text in [plain::read_text, plain::usual::read_text] {
+            words.fill(0);
+            let read = read_text(&text, &mut words).unwrap();
+            assert!(words == self.words && read.clauses == counts.clauses);
+        }
     }
 
     pub fn check(&self) -> Cell {
@@ -147,11 +171,12 @@ impl Case {
     pub fn model(&self) -> Cell {
         let (ours, plain) = (our_diagram(&self.skid), plain_diagram(&self.skid));
         let mut lent = vec![0; self.skid.build.len()];
-        Cell::with_copy(self.diagram_words() + self.model.len(), |which| {
+        Cell::with_usual(self.diagram_words() + self.model.len(), |which| {
             let (model, out) = black_box((&self.model, &mut lent[..]));
             match which {
                 OURS => drop(black_box(binnaclebox::read_model(&ours, model, out))),
                 PLAIN => drop(black_box(plain::read_model(&plain, model, out))),
+                USUAL => drop(black_box(plain::usual::read_model(&plain, model, out))),
                 _ => out.copy_from_slice(black_box(&self.skid.build)),
             }
         })
@@ -159,12 +184,13 @@ impl Case {
 
     pub fn text_out(&self) -> Cell {
         let mut lent = vec![0; self.text.len()];
-        Cell::with_copy(self.words.len(), |which| {
+        Cell::with_usual(self.words.len(), |which| {
             let (v, words) = black_box((self.variables, &self.words));
             let out = black_box(&mut lent[..]);
             match which {
                 OURS => drop(black_box(binnaclebox::write_text(v, words, out))),
                 PLAIN => drop(black_box(plain::write_text(v, words, out))),
+                USUAL => drop(black_box(plain::usual::write_text(v, words, out))),
                 _ => out.copy_from_slice(black_box(&self.text)),
             }
         })
@@ -172,11 +198,12 @@ impl Case {
 
     pub fn text_in(&self) -> Cell {
         let mut lent = vec![0; self.words.len()];
-        let mut cell = Cell::with_copy(self.text.len(), |which| {
+        let mut cell = Cell::with_usual(self.text.len(), |which| {
             let (text, out) = black_box((&self.text, &mut lent[..]));
             match which {
                 OURS => drop(black_box(binnaclebox::read_text(text, out))),
                 PLAIN => drop(black_box(plain::read_text(text, out))),
+                USUAL => drop(black_box(plain::usual::read_text(text, out))),
                 _ => out.copy_from_slice(black_box(&self.words)),
             }
         });

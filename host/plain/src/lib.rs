@@ -1,4 +1,5 @@
-//! Decision diagrams as SAT clauses, in plain Rust tuned by hand.
+//! Decision diagrams as SAT clauses, in plain Rust tuned by hand; in `usual`,
+//! three of the calls as they would usually be written.
 //!
 //! This crate is what the verified library is compared with: its tests hold
 //! the answers of both side by side, and its benchmark times both. It shares
@@ -12,6 +13,7 @@ mod model;
 mod text_bytes;
 mod text_in;
 mod text_out;
+pub mod usual;
 
 pub use diagram::{check, Diagram};
 pub use encode::encode;

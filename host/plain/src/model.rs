@@ -7,10 +7,10 @@ use crate::{refuse, Refusal};
 /// Literals looked at together; only blocks that name a value take more.
 const BLOCK: usize = 256;
 /// The most value variables that a diagram can have.
-const MOST_NAMES: usize = Diagram::MOST_OPTIONS * Diagram::MOST_VALUES as usize;
+pub(crate) const MOST_NAMES: usize = Diagram::MOST_OPTIONS * Diagram::MOST_VALUES as usize;
 
 /// What the model says of a value variable.
-const UNNAMED: u8 = 0;
+pub(crate) const UNNAMED: u8 = 0;
 const FALSE: u8 = 1;
 const TRUE: u8 = 2;
 
@@ -59,7 +59,7 @@ fn read_values(literals: &[i32], variables: u32, said: &mut [u8]) -> Result<(), 
 }
 
 /// Notes a block's value variables; gives the first that was noted before.
-fn note(block: &[i32], said: &mut [u8]) -> Option<usize> {
+pub(crate) fn note(block: &[i32], said: &mut [u8]) -> Option<usize> {
     for (at, &literal) in block.iter().enumerate() {
         let name = literal.unsigned_abs() as usize - 1;
         let Some(slot) = said.get_mut(name) else {
@@ -74,7 +74,7 @@ fn note(block: &[i32], said: &mut [u8]) -> Option<usize> {
 }
 
 /// Check 12, and the one true value of each option.
-fn choose(domains: &[u32], said: &[u8; MOST_NAMES]) -> Result<[u32; 64], Refusal> {
+pub(crate) fn choose(domains: &[u32], said: &[u8; MOST_NAMES]) -> Result<[u32; 64], Refusal> {
     let mut build = [0; Diagram::MOST_OPTIONS];
     let mut first = 0;
     for (option, &size) in domains.iter().enumerate() {

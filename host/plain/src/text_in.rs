@@ -49,14 +49,14 @@ pub fn read_text(text: &[u8], out: &mut [i32]) -> Result<Tally, Refusal> {
 }
 
 /// The header line's numbers, and where the line ends.
-struct Header {
-    variables: u32,
-    clauses: u32,
-    end: usize,
+pub(crate) struct Header {
+    pub variables: u32,
+    pub clauses: u32,
+    pub end: usize,
 }
 
 /// Passes over comment lines; checks 17 and 16.
-fn read_header(text: &[u8]) -> Result<Header, Refusal> {
+pub(crate) fn read_header(text: &[u8]) -> Result<Header, Refusal> {
     let mut start = 0;
     while text.get(start) == Some(&b'c') {
         let feed = text[start..].iter().position(|&b| b == b'\n');
@@ -100,7 +100,7 @@ fn decimal(text: &[u8]) -> Option<(u32, &[u8])> {
     Some((most, rest))
 }
 
-fn is_space(byte: u8) -> bool {
+pub(crate) fn is_space(byte: u8) -> bool {
     matches!(byte, b' ' | b'\t' | b'\r' | b'\n')
 }
 

@@ -7,7 +7,7 @@ use crate::{refuse, Refusal};
 
 pub(crate) const MOST_VARIABLES: u32 = 1_000_000;
 pub(crate) const MOST_CLAUSES: usize = 4_000_000;
-const MOST_WORDS: usize = 100_000_000;
+pub(crate) const MOST_WORDS: usize = 100_000_000;
 pub(crate) const OPENING: &[u8; 6] = b"p cnf ";
 
 /// Checks 16, 14, 15 and 7, then writes the text and gives its length.
@@ -89,7 +89,7 @@ fn digits(number: u32) -> usize {
 }
 
 /// The header line.
-fn write_header(out: &mut [u8], variables: u32, clauses: u32) {
+pub(crate) fn write_header(out: &mut [u8], variables: u32, clauses: u32) {
     let (opening, numbers) = out.split_at_mut(OPENING.len());
     opening.copy_from_slice(OPENING);
     let (first, second) = numbers.split_at_mut(digits(variables) + 1);

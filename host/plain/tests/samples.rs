@@ -1,6 +1,6 @@
 //! The samples S1 to S8 and the text samples, both sides of each line.
 
-use plain::{check, encode, judge, read_model, read_text, write_text};
+use plain::{check, encode, judge, read_model, read_text, usual, write_text};
 use plain::{Diagram, Refusal, Tally};
 
 const S1: Diagram = Diagram {
@@ -163,10 +163,12 @@ fn empty_layers_let_only_false_through() {
 
 /// A model of S1 with its answer; a refusal keeps the lent list.
 fn model(literals: &[i32], wanted: Result<u32, Refusal>) {
-    let mut out = [99, 98];
-    let got = read_model(&S1, literals, &mut out);
-    assert_eq!(got, wanted.map(|_| 1));
-    assert_eq!(out, [wanted.unwrap_or(99), 98]);
+    for read_model in [read_model, usual::read_model] {
+        let mut out = [99, 98];
+        let got = read_model(&S1, literals, &mut out);
+        assert_eq!(got, wanted.map(|_| 1));
+        assert_eq!(out, [wanted.unwrap_or(99), 98]);
+    }
 }
 
 #[test]
@@ -187,6 +189,15 @@ fn s8_models() {
 
 /// A text with its answer; a refusal keeps the lent list.
 fn text(text: &str, wanted: Result<&[i32], (u32, usize)>) {
+    text_by(read_text, text, wanted);
+    text_by(usual::read_text, text, wanted);
+}
+
+fn text_by(
+    read_text: impl Fn(&[u8], &mut [i32]) -> Result<Tally, Refusal>,
+    text: &str,
+    wanted: Result<&[i32], (u32, usize)>,
+) {
     let mut out = [MARK; 8];
     let got = read_text(text.as_bytes(), &mut out);
     let kept = match wanted {
@@ -276,11 +287,11 @@ fn text_tokens() {
 fn text_out_refusals() {
     let mut out = [b'~'; 40];
     let mut refuse = |variables, words: &[i32], number, place| {
-        assert_eq!(
-            write_text(variables, words, &mut out),
-            refused(number, place)
-        );
-        assert!(out.iter().all(|&b| b == b'~'));
+        for write_text in [write_text, usual::write_text] {
+            let got = write_text(variables, words, &mut out);
+            assert_eq!(got, refused(number, place));
+            assert!(out.iter().all(|&b| b == b'~'));
+        }
     };
     refuse(1_000_001, &[5], 16, 0);
     refuse(2, &[1, -3, 4], 14, 1);

@@ -1,25 +1,33 @@
-//! The tuned functions against the simplest ones that could be right, on
-//! many small inputs drawn from a fixed seed, sound and broken alike.
+//! The tuned functions, and those written as usual, against the simplest ones
+//! that could be right, on many small inputs drawn from a fixed seed, sound
+//! and broken alike.
 
 mod draw;
 mod simple;
 
 use draw::{Draw, Lists};
-use plain::{check, encode, judge, read_model, read_text, write_text};
+use plain::{check, encode, judge, read_model, read_text, usual, write_text, Tally};
 use simple::Answer;
 use std::fmt::Debug;
 
-/// Runs two functions on two buffers that start alike; all must end alike.
+/// A function of the crate, given all but its buffer.
+type Run<'a, T, W> = &'a dyn Fn(&mut [W]) -> Answer<T>;
+
+/// Runs functions on buffers that start alike; all must end as the simple one
+/// says.
 fn same<T: PartialEq + Debug, W: Copy + PartialEq + Debug>(
     room: usize,
     mark: W,
-    tuned: impl Fn(&mut [W]) -> Answer<T>,
+    runs: &[Run<T, W>],
     simple: impl Fn(&mut [W]) -> Answer<T>,
 ) -> Answer<T> {
-    let (mut one, mut two) = (vec![mark; room], vec![mark; room]);
-    let answer = tuned(&mut one);
-    assert_eq!(answer, simple(&mut two));
-    assert_eq!(one, two);
+    let mut wanted = vec![mark; room];
+    let answer = simple(&mut wanted);
+    for run in runs {
+        let mut out = vec![mark; room];
+        assert_eq!(run(&mut out), answer);
+        assert_eq!(out, wanted);
+    }
     answer
 }
 
@@ -39,12 +47,9 @@ fn diagrams() {
         assert_eq!(check(&d), simple::check(&d), "{d:?}");
         let full = simple::encode(&d, &mut vec![0; 40_000]).map_or(100, |t| t.words);
         let room = full + draw.pick(&[0, 1, 4]) - 1;
-        let got = same(
-            room,
-            -7,
-            |out| encode(&d, out),
-            |out| simple::encode(&d, out),
-        );
+        let got = same(room, -7, &[&|out| encode(&d, out)], |out| {
+            simple::encode(&d, out)
+        });
         seen[number(got)] += 1;
     }
     assert!([0, 2, 4, 5, 6, 7].iter().all(|&k| seen[k] > 20), "{seen:?}");
@@ -85,7 +90,9 @@ fn models() {
         let got = same(
             room,
             99,
-            |out| read_model(&d, &literals, out),
+            &[&|out| read_model(&d, &literals, out), &|out| {
+                usual::read_model(&d, &literals, out)
+            }],
             |out| simple::read_model(&d, &literals, out),
         );
         seen[number(got)] += 1;
@@ -108,7 +115,9 @@ fn texts_out() {
         let got = same(
             room,
             b'~',
-            |out| write_text(variables, &words, out),
+            &[&|out| write_text(variables, &words, out), &|out| {
+                usual::write_text(variables, &words, out)
+            }],
             |out| simple::write_text(variables, &words, out),
         );
         seen[number(got)] += 1;
@@ -130,7 +139,9 @@ fn texts_in() {
         let got = same(
             room,
             -7,
-            |out| read_text(&text, out),
+            &[&|out| read_text(&text, out), &|out| {
+                usual::read_text(&text, out)
+            }],
             |out| simple::read_text(&text, out),
         );
         seen[number(got)] += 1;
@@ -149,19 +160,26 @@ fn long_lists_of_long_words() {
         })
         .chain([0])
         .collect();
-    let mut text = vec![b'~'; 200_000];
-    let mut wanted = text.clone();
-    let length = write_text(1_000_000, &words, &mut text).unwrap();
-    assert_eq!(
-        simple::write_text(1_000_000, &words, &mut wanted),
-        Ok(length)
-    );
+    let mut wanted = vec![b'~'; 200_000];
+    let length = simple::write_text(1_000_000, &words, &mut wanted).unwrap();
+    long(&words, &wanted, length, write_text, read_text);
+    long(&words, &wanted, length, usual::write_text, usual::read_text);
+}
+
+/// Writes a word list as the text wanted, and reads it back, whole and broken.
+fn long(
+    words: &[i32],
+    wanted: &[u8],
+    length: usize,
+    write_text: impl Fn(u32, &[i32], &mut [u8]) -> Answer<usize>,
+    read_text: impl Fn(&[u8], &mut [i32]) -> Answer<Tally>,
+) {
+    let mut text = vec![b'~'; wanted.len()];
+    assert_eq!(write_text(1_000_000, words, &mut text), Ok(length));
     assert!(text == wanted);
     let mut back = vec![0; words.len()];
-    assert_eq!(
-        read_text(&text[..length], &mut back).map(|t| t.words),
-        Ok(words.len())
-    );
+    let read = read_text(&text[..length], &mut back);
+    assert_eq!(read.map(|t| t.words), Ok(words.len()));
     assert!(back == words);
     text[length - 5] = b'x';
     assert_eq!(number(read_text(&text[..length], &mut back)), 18);
