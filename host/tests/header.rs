@@ -1,6 +1,7 @@
 //! The header as C programs see it: `header.c` is compiled against it and the archive, as C and as
 //! C++, and run.
 
+use crate::common::driver::say;
 use std::process::Command;
 use std::{env, fs, path::Path, process};
 
@@ -32,7 +33,7 @@ fn compile_and_run(language: &str, standard: &str) {
         .expect("cc is on the path");
     let messages = String::from_utf8_lossy(&compiled.stderr);
     if language == "c++" && messages.contains("cc1plus") {
-        println!("skipped: cc has no C++ here");
+        say("cc has no C++ here: skipped");
         return;
     }
     assert!(compiled.status.success(), "{messages}");

@@ -2,7 +2,7 @@
 //! build in turn counts exactly the allowed ones. A solver that is not on the path is skipped.
 
 use crate::common::diagrams::{largest, small, OwnedDiagram};
-use crate::common::driver::run_seed;
+use crate::common::driver::{run_seed, say};
 use crate::common::numbers::{seed_of, Rng};
 use std::path::PathBuf;
 use std::process::Command;
@@ -54,7 +54,7 @@ fn picosat() {
 
 fn try_solver(solver: &Solver) {
     if !solver.is_installed() {
-        println!("{} is not on the path: skipped", solver.name);
+        say(&format!("{} is not on the path: skipped", solver.name));
         return;
     }
     let run = run_seed();

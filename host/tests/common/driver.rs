@@ -4,7 +4,7 @@
 use super::buffers::{Element, Guarded};
 use super::numbers::{seed_of, Rng};
 use binnaclebox::raw::ANSWER;
-use std::{collections::BTreeMap, env, fmt::Debug, thread};
+use std::{collections::BTreeMap, env, fmt::Debug, io, io::Write, thread};
 
 /// How many cases a run draws for each entry point.
 const CASES: u64 = 300_000;
@@ -65,6 +65,12 @@ pub fn run<E: Entry>() {
 /// The seed of the whole run.
 pub fn run_seed() -> u64 {
     number_of("BINNACLEBOX_SEED").unwrap_or(DEFAULT_SEED)
+}
+
+/// Says something that is shown although the test passes.
+pub fn say(what: &str) {
+    // Where standard error is closed, nobody is told.
+    let _ = writeln!(io::stderr(), "{what}");
 }
 
 fn number_of(variable: &str) -> Option<u64> {
