@@ -1,13 +1,13 @@
 -- What a C program gets is what the library's function answers: the entries of what it says, and the same buffer. So the
 -- demands hold of the one as of the other. Assumes nothing.
-use mathlib.Core.Path.{_≡_, refl, sym, _∙_, ap}
+use mathlib.Core.Path.{_≡_, sym, _∙_, ap}
 use mathlib.Core.List.{List}
 use Prim.Native.Nat.{ℕ, _≤_}
 use lib.IntN.{ℤ}
 use lib.ListN.{length}
 use Rattle.lists.specs.Buffer.{over}
 use Rattle.refusal.specs.Rules.{Rule, chain}
-use Rattle.refusal.specs.Said.{Said, saying}
+use Rattle.refusal.specs.Said.{Said}
 use Rattle.refusal.specs.Answered.{AnsweredBy}
 use Rattle.cnf.specs.Encoded.{encodedSaid}
 use Rattle.cnf.specs.declared.EncodeAnswer.{EncodeAnswer}

@@ -1,10 +1,9 @@
 -- `capi::bb_judge` meets its contract: what `judge` said. Assumes nothing.
-use mathlib.Core.Path.{_≡_, sym, _∙_, ap}
+use mathlib.Core.Path.{sym, _∙_, ap}
 use borrow.Author.Needs.{needs}
 use Rattle.judge.specs.Promise.{judgeSaid}
 use Rattle.judge.specs.declared.Judged.{Judged}
-use Rattle.judge.specs.declared.Judged.the-variants.{Allowed, NotAllowed, Refused}
-use Rattle.capi.specs.Call.{entries}
+use Rattle.judge.specs.declared.Judged.the-variants.{Allowed, NotAllowed}
 use Rattle.capi.proofs.CallLaws.{left-short, answered-long}
 use Rattle.capi.proofs.bb_judge.Statement.{statement}
 use Rattle.capi.proofs.bb_judge.Tie as tie

@@ -1,5 +1,5 @@
 -- `model::again_in_block` meets its contract: where the count is 0, the block changes nothing. Assumes nothing.
-use mathlib.Core.Path.{_≡_, sym, _∙_}
+use mathlib.Core.Path.{sym, _∙_}
 use borrow.Author.Needs.{needs}
 use Rattle.model.specs.Marks.{NotedTo}
 use Rattle.model.proofs.MarkLaws.{noted-past}
