@@ -6,15 +6,14 @@ use Prim.Native.Nat.{ℕ, _≤_, _<_}
 use native.Mathlib.Omega.{arith}
 use lib.ListN.{length, take, drop}
 use lib.IntN.{ℤ}
-use lib.Dec.{T}
 use Rattle.lists.specs.Buffer.{over}
 use Rattle.lists.proofs.BufferLaws.{over-parts}
 use Rattle.refusal.specs.Rules.{Rule, refusal, roomRule, chain}
 use Rattle.refusal.specs.Said.{result}
-use Rattle.refusal.specs.Table.{Row, numbers, ExactlyWhen}
+use Rattle.refusal.specs.Table.{Row, ExactlyWhen}
 use Rattle.refusal.specs.declared.Refusal.{Refusal}
 use Rattle.refusal.specs.declared.Verdict.the-variants.{Passed, Refused as Refusing}
-use Rattle.refusal.proofs.TableLaws.{eachOnce, Faithful}
+use Rattle.refusal.proofs.TableLaws.{Faithful}
 use Rattle.refusal.proofs.AnsweredLaws.{by-refusal, by-result, first-refuse, goes-on, Told, told}
 use Rattle.refusal.proofs.RoomLaws.{too-short, long-enough}
 use Rattle.cnf.specs.Clause.{Clause, words}
@@ -46,7 +45,7 @@ module _ (cs : List Clause) (last : ℕ) (before : List ℤ) where
     tells = told encodedSaid encoded-said-once Refused (λ r. refl) promise
 
     -- where the rules compute a table: each number is given exactly when its row is due and none before it is
-    pub encoded-exactly-when : (table : List Row) → Faithful rules table → T (eachOnce (numbers table)) → ExactlyWhen table (λ r. answer .outcome ≡ Refused r)
+    pub encoded-exactly-when : (table : List Row) → Faithful rules table → ExactlyWhen table (λ r. answer .outcome ≡ Refused r)
     encoded-exactly-when = tells .told-when
 
     -- a refusal keeps the buffer

@@ -7,7 +7,7 @@ use Rattle.model.proofs.ModelLaws.{model-exactly-when, model-keeps}
 use Rattle.dimacs.proofs.WriteLaws.{write-exactly-when, write-keeps}
 use Rattle.dimacs.proofs.ReadLaws.{read-exactly-when, read-keeps}
 use Rattle.diagram_file.proofs.ReadLaws.{file-exactly-when, file-keeps}
-use Rattle.desk.proofs.DeskLaws.{told-exactly-when, short-exactly-when, short-keeps}
+use Rattle.desk.proofs.DeskLaws.{is-short, short-exactly-when, short-keeps, prints}
 use Rattle.demands.specs.Demand1.{Demand1}
 
 pub demand1 : Demand1
@@ -20,6 +20,6 @@ demand1 =
       write-text = λ v ws before a after p. record { exactly = write-exactly-when v ws before a after p; keeps = write-keeps v ws before a after p };
       read-text = λ text before a after p. record { exactly = read-exactly-when text before a after p; keeps = read-keeps text before a after p };
       read-diagram = λ text before a after p. record { exactly = file-exactly-when text before a after p; keeps = file-keeps text before a after p };
-      told = told-exactly-when;
-      run-desk = λ input before a after p. record { exactly = short-exactly-when input before a after p; keeps = short-keeps input before a after p };
+      run-desk = λ input before a after p o bytes w. (record { exactly = short-exactly-when input before a after p w; keeps = short-keeps input before a after p w }, prints input before a after p w);
+      printed = is-short;
     }

@@ -2,13 +2,11 @@
 -- a refusal changes no lent buffer. (That an answer comes at all is that the functions are proved.) Assumes nothing.
 use mathlib.Core.Path.{_≡_}
 use mathlib.Core.List.{List, [], _∷_}
-use Prim.Native.Nat.{ℕ}
+use Prim.Native.Nat.{ℕ, _≤_}
 use lib.IntN.{ℤ}
 use lib.ListN.{length}
-use Rattle.refusal.specs.Rules.{chain}
-use Rattle.refusal.specs.Table.{Row, roomRow, ExactlyWhen, ExactlyInTurn}
+use Rattle.refusal.specs.Table.{Row, roomRow, ExactlyWhen}
 use Rattle.refusal.specs.declared.Refusal.{Refusal}
-use Rattle.refusal.specs.declared.Verdict.the-variants as verdict
 use Rattle.cnf.specs.declared.Encoded.the-variants as encoded
 use Rattle.cnf.specs.declared.EncodeAnswer.{EncodeAnswer}
 use Rattle.diagram.specs.Lent.{Lent}
@@ -37,19 +35,14 @@ use Rattle.diagram_file.specs.Rules.{fileTable}
 use Rattle.diagram_file.specs.Promise.{roomOf, FilePromise}
 use Rattle.diagram_file.specs.declared.FileRead.the-variants as file
 use Rattle.diagram_file.specs.declared.FileAnswer.{FileAnswer}
-use Rattle.desk.specs.Output.{deskRules, deskTable, printed}
-use Rattle.desk.specs.Promise.{DeskPromise}
+use Rattle.desk.specs.Promise.{DeskPromise, Printed, Prints}
+use Rattle.desk.specs.declared.DeskRun.{DeskRun}
 use Rattle.desk.specs.declared.DeskRun.the-variants as run
 use Rattle.desk.specs.declared.DeskAnswer.{DeskAnswer}
 
 -- `Is r` says that the answer is the refusal r; before and after are what the lent buffer holds
 pub record Refuses {B : Type 0} (table : List Row) (Is : Refusal → Type 0) (before after : B) : Type 0 where
   pub exactly : ExactlyWhen table Is
-  pub keeps : (r : Refusal) → Is r → after ≡ before
-
--- the same for a table whose rows are asked one after the other
-pub record RefusesInTurn {B : Type 0} (table : List Row) (Is : Refusal → Type 0) (before after : B) : Type 0 where
-  pub exactly : ExactlyInTurn table Is
   pub keeps : (r : Refusal) → Is r → after ≡ before
 
 -- for every outcome that an entry point's promise allows
@@ -65,8 +58,9 @@ pub record Demand1 : Type 0 where
   pub read-text : (text : List ℕ) (before : List ℤ) (a : ReadAnswer) (after : List ℤ) → ReadPromise text before a after
       → Refuses (readTable text (length before)) (λ r. a .outcome ≡ read.Refused r) before after
   pub read-diagram : (text : List ℕ) (before : Lent) (a : FileAnswer) (after : Lent) → FilePromise text before a after
-      → RefusesInTurn (fileTable text (roomOf before)) (λ r. a .outcome ≡ file.Refused r) before after
-  -- what the program tells; and, for a buffer that is too short for what it prints, number 7
-  pub told : (input : List ℕ) → ExactlyInTurn (deskTable input) (λ r. chain (deskRules input) ≡ verdict.Refused r)
-  pub run-desk : (input before : List ℕ) (a : DeskAnswer) (after : List ℕ) → DeskPromise input before a after
-      → Refuses (roomRow (length (printed input)) (length before) ∷ []) (λ r. a .outcome ≡ run.Refused r) before after
+      → Refuses (fileTable text (roomOf before)) (λ r. a .outcome ≡ file.Refused r) before after
+  -- of what the program is to print: it is answered, and stands at the buffer's front, where it fits; number 7 where it does not
+  pub run-desk : (input before : List ℕ) (a : DeskAnswer) (after : List ℕ) → DeskPromise input before a after → (o : DeskRun) (bytes : List ℕ) → Printed input o bytes
+      → Refuses (roomRow (length bytes) (length before) ∷ []) (λ r. a .outcome ≡ run.Refused r) before after × (length bytes ≤ length before → Prints o bytes before a after)
+  -- there is always something to print, and it is never more than 73,750 bytes
+  pub printed : (input : List ℕ) → (o : DeskRun) × (bytes : List ℕ) × Printed input o bytes × (length bytes ≤ 73750)

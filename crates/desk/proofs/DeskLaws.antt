@@ -1,6 +1,6 @@
 -- What an answer of `run` tells: which refusals are printed, exactly when, and that a buffer of 73,750 bytes is long enough.
 -- Assumes nothing.
-use mathlib.Core.Path.{_≡_, refl, _∙_}
+use mathlib.Core.Path.{_≡_, refl, sym, ap, _∙_}
 use mathlib.Core.List.{List, [], _∷_}
 use Prim.Native.Nat.{ℕ, _≤_}
 use native.Mathlib.Omega.{arith}
@@ -10,13 +10,13 @@ use borrow.Author.Tests.{ltb-true, ltb-false}
 use Rattle.lists.proofs.FirstLaws.{tests-at}
 use Rattle.lists.specs.Buffer.{over}
 use Rattle.lists.proofs.BufferLaws.{over-parts}
-use Rattle.refusal.specs.Rules.{roomRule, chain}
-use Rattle.refusal.specs.Table.{roomRow, ExactlyWhen, ExactlyInTurn}
+use Rattle.refusal.specs.Rules.{refusal, roomRule, chain}
+use Rattle.refusal.specs.Table.{roomRow, ExactlyWhen}
 use Rattle.refusal.specs.declared.Refusal.{Refusal}
 use Rattle.refusal.specs.declared.Verdict.{Verdict}
 use Rattle.refusal.specs.declared.Verdict.the-variants as verdict
-use Rattle.refusal.proofs.TableLaws.{Faithful, faithful-append, exactly-in-turn}
-use Rattle.refusal.proofs.RulesLaws.{passed}
+use Rattle.refusal.proofs.TableLaws.{Faithful, faithful-append, passes-or-refuses, exactly-when}
+use Rattle.refusal.proofs.RulesLaws.{passed, never-both}
 use Rattle.refusal.proofs.RoomLaws.{room-faithful, long-enough}
 use Rattle.refusal.proofs.AnsweredLaws.{Told, told}
 use Rattle.clauses.proofs.WellListed.{edition1-listed}
@@ -25,8 +25,9 @@ use Rattle.encoder.proofs.EncodeLaws.{encode-faithful, all-passed}
 use Rattle.diagram_file.specs.File.{fileDiagram}
 use Rattle.diagram_file.specs.Rules.{fileRules}
 use Rattle.diagram_file.proofs.FileLaws.{file-faithful}
-use Rattle.desk.specs.Output.{mostBytes, mostSizes, mostWords, edition, listRules, linesRules, deskRules, deskTable, diagramText, refusalLines, printing, printed}
-use Rattle.desk.specs.Promise.{deskSaid, outcomeOf, PrintedBy, DeskPromise, Prints, desk-said-once}
+use Rattle.desk.specs.Output.{mostBytes, mostSizes, mostWords, edition, listRules, linesRules, deskRules, deskTable, diagramText, refusalLines, printing}
+use Rattle.desk.specs.Promise.{deskSaid, outcomeOf, PrintedBy, DeskPromise, Printed, refusal-lines, clause-text, Prints, desk-said-once}
+use Rattle.desk.specs.declared.DeskRun.{DeskRun}
 use Rattle.desk.specs.declared.DeskRun.the-variants as run
 use Rattle.desk.specs.declared.DeskAnswer.{DeskAnswer}
 use Rattle.desk.proofs.PrintLaws.{lines-most}
@@ -49,9 +50,17 @@ module _ (input : List ℕ) where
     λ _. faithful-append (fileRules input mostSizes) (listRules (fileDiagram input)) _ _ (file-faithful input mostSizes) (λ _. encode-faithful edition (fileDiagram input) mostWords),
   )
 
-  -- a refusal is told exactly when the table gives it
-  pub told-exactly-when : ExactlyInTurn (deskTable input) (λ r. chain (deskRules input) ≡ verdict.Refused r)
-  told-exactly-when = exactly-in-turn (deskRules input) (deskTable input) desk-faithful (λ r. ((λ e. e), (λ e. e)))
+  by-table : ExactlyWhen (deskTable input) (λ r. chain (deskRules input) ≡ verdict.Refused r)
+  by-table = exactly-when (deskRules input) (deskTable input) desk-faithful (λ r. ((λ e. e), (λ e. e)))
+
+  -- what is printed by the rules' verdict is what the table says
+  is-printed : (v : Verdict) → chain (deskRules input) ≡ v → Printed input (outcomeOf v (length (printing v (diagramText (fileDiagram input))))) (printing v (diagramText (fileDiagram input)))
+  is-printed verdict.Passed e = clause-text (by-table .not-refused .0 (λ r q. never-both (chain (deskRules input)) e q))
+  is-printed (verdict.Refused r) e = refusal-lines (r .number) (r .place) (by-table .refused (r .number) (r .place) .0 e)
+
+  printed-is : {outcome : DeskRun} {bytes : List ℕ} → Printed input outcome bytes → (v : Verdict) × (chain (deskRules input) ≡ v) × (outcome ≡ outcomeOf v (length bytes)) × (bytes ≡ printing v (diagramText (fileDiagram input)))
+  printed-is (refusal-lines n p g) = (verdict.Refused (refusal n p), by-table .refused n p .1 g, refl, refl)
+  printed-is (clause-text none) = (verdict.Passed, passes-or-refuses (chain (deskRules input)) (by-table .not-refused .1 none), refl, refl)
 
   -- ---- how much is printed
 
@@ -66,18 +75,9 @@ module _ (input : List ℕ) where
   short verdict.Passed q = text-short q
   short (verdict.Refused r) q = omega (arith, lines-most r)
 
-  pub printed-short : length (printed input) ≤ 73750
-  unfolding printed
-  printed-short = short (chain (deskRules input)) refl
-
-  -- ---- and so a buffer that long holds it
-
-  pub prints : (before : List ℕ) (answer : DeskAnswer) (after : List ℕ) → DeskPromise input before answer after → 73750 ≤ length before → Prints input before answer after
-  unfolding printed
-  prints before answer after p h =
-      let w = fits (chain (deskRules input)) _ before answer after p (omega (arith, short (chain (deskRules input)) refl)) in
-      let o = over-parts (printed input) before refl (w .1) in
-      record { answered = w .0; the-bytes = o .0; the-rest = o .1 }
+  -- something is, and it is never longer than the program's buffer
+  pub is-short : (outcome : DeskRun) × (bytes : List ℕ) × Printed input outcome bytes × (length bytes ≤ 73750)
+  is-short = (_, _, is-printed (chain (deskRules input)) refl, short (chain (deskRules input)) refl)
 
 -- ---- a buffer that is too short
 
@@ -86,12 +86,23 @@ tells : (v : Verdict) (text before : List ℕ) (answer : DeskAnswer) (after : Li
 tells verdict.Passed text before answer after p = told deskSaid desk-said-once run.Refused (λ r. refl) p
 tells (verdict.Refused r) text before answer after p = told deskSaid desk-said-once run.Refused (λ r. refl) p
 
-module _ (input before : List ℕ) (answer : DeskAnswer) (after : List ℕ) (promise : DeskPromise input before answer after) where
-  -- number 7 is answered exactly when what is to be printed does not fit, and no other number is
-  pub short-exactly-when : ExactlyWhen (roomRow (length (printed input)) (length before) ∷ []) (λ r. answer .outcome ≡ run.Refused r)
-  unfolding printed
-  short-exactly-when = tells (chain (deskRules input)) _ before answer after promise .told-when (roomRow (length (printed input)) (length before) ∷ []) (room-faithful (length (printed input)) (length before)) tt
+-- of what is to be printed
+module _ (input before : List ℕ) (answer : DeskAnswer) (after : List ℕ) (promise : DeskPromise input before answer after) {outcome : DeskRun} {bytes : List ℕ} (w : Printed input outcome bytes) where
+  by : PrintedBy (printed-is input w .0) (diagramText (fileDiagram input)) before answer after
+  by = rw (printed-is input w .1) at promise
+
+  -- number 7 is answered exactly when it does not fit, and no other number is
+  pub short-exactly-when : ExactlyWhen (roomRow (length bytes) (length before) ∷ []) (λ r. answer .outcome ≡ run.Refused r)
+  short-exactly-when = rw (printed-is input w .3) (tells (printed-is input w .0) _ before answer after by .told-when (roomRow _ (length before) ∷ []) (room-faithful _ (length before)))
 
   -- and then the buffer is kept
   pub short-keeps : (r : Refusal) → answer .outcome ≡ run.Refused r → after ≡ before
-  short-keeps = tells (chain (deskRules input)) _ before answer after promise .told-keeps
+  short-keeps = tells (printed-is input w .0) _ before answer after by .told-keeps
+
+  -- where it fits, it is printed
+  pub prints : length bytes ≤ length before → Prints outcome bytes before answer after
+  prints h =
+      let k = printed-is input w in
+      let g = fits (k .0) _ before answer after by (rw (k .3) at h) in
+      let o = over-parts bytes before refl (g .1 ∙ ap (λ (b : List ℕ). over b before) (sym (k .3))) in
+      record { answered = g .0 ∙ ap (λ (b : List ℕ). outcomeOf (k .0) (length b)) (sym (k .3)) ∙ sym (k .2); the-bytes = o .0; the-rest = o .1 }

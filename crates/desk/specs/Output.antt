@@ -6,7 +6,7 @@ use Prim.Native.Nat.{ℕ, _≤_}
 use lib.Dec.{ltb}
 use lib.ListN.{length}
 use Rattle.lists.specs.First.{foundIf}
-use Rattle.refusal.specs.Rules.{Rule, rule, chain}
+use Rattle.refusal.specs.Rules.{Rule, rule}
 use Rattle.refusal.specs.Table.{Row, row}
 use Rattle.refusal.specs.declared.Refusal.{Refusal}
 use Rattle.refusal.specs.declared.Verdict.{Verdict}
@@ -78,6 +78,3 @@ diagramText d = textOf (lastVariable edition d) (words (clauses edition d))
 abbrev pub printing : Verdict → List ℕ → List ℕ
 printing Passed text = text
 printing (Refused r) text = refusalLines r
-
-unfoldable pub printed : List ℕ → List ℕ
-printed input = printing (chain (deskRules input)) (diagramText (fileDiagram input))

@@ -6,12 +6,13 @@ use lib.ListN.{length, getD, take, drop}
 use Rattle.lists.specs.Buffer.{over}
 use Rattle.refusal.specs.Rules.{refusal, roomRule, chain}
 use Rattle.refusal.specs.Said.{Said, refused, result}
+use Rattle.refusal.specs.Table.{GivenIn, NoneDue}
 use Rattle.refusal.specs.Answered.{AnsweredBy, answered-once}
 use Rattle.refusal.specs.declared.Verdict.{Verdict}
 use Rattle.refusal.specs.declared.Verdict.the-variants as verdict
 use Rattle.refusal.proofs.SaidLaws.{refused-one}
 use Rattle.diagram_file.specs.File.{fileDiagram}
-use Rattle.desk.specs.Output.{deskRules, diagramText, printing, printed}
+use Rattle.desk.specs.Output.{deskRules, deskTable, refusalLines, diagramText, printing}
 use Rattle.desk.specs.declared.DeskRun.{DeskRun}
 use Rattle.desk.specs.declared.DeskRun.the-variants.{Text, Told, Refused}
 use Rattle.desk.specs.declared.DeskAnswer.{DeskAnswer}
@@ -60,9 +61,16 @@ desk-said-once (Refused r) (Refused s) p = ap Refused (refused-one r s p)
 pub desk-one-outcome : (input before : List ℕ) (a b : DeskAnswer) (after after′ : List ℕ) → DeskPromise input before a after → DeskPromise input before b after′ → (a ≡ b) × (after ≡ after′)
 desk-one-outcome input before a b after after′ p q = let w = answered-once desk-said-once p q in (ap (λ (o : DeskRun). record { outcome = o }) (w .0), w .1)
 
--- where the lent buffer is long enough: the answer says how many bytes are printed, and which refusal they tell; they stand
--- at the buffer's front, and the rest of it is kept
-pub record Prints (input before : List ℕ) (answer : DeskAnswer) (after : List ℕ) : Type 0 where
-  pub answered : answer .outcome ≡ outcomeOf (chain (deskRules input)) (length (printed input))
-  pub the-bytes : take (length (printed input)) after ≡ printed input
-  pub the-rest : drop (length (printed input)) after ≡ drop (length (printed input)) before
+-- ---- the same in words
+
+-- what is to be printed, and the answer that goes with it: the lines of the refusal that the table gives, or the clause text
+-- where no row is due
+pub data Printed (input : List ℕ) : DeskRun → List ℕ → Type 0 where
+  refusal-lines : (n p : ℕ) → GivenIn (deskTable input) n p → Printed input (Told (length (refusalLines (refusal n p))) (refusal n p)) (refusalLines (refusal n p))
+  clause-text : NoneDue (deskTable input) → Printed input (Text (length (diagramText (fileDiagram input)))) (diagramText (fileDiagram input))
+
+-- it stands at the front of a lent buffer, the rest of the buffer is kept, and the answer is the one that goes with it
+pub record Prints (outcome : DeskRun) (bytes before : List ℕ) (answer : DeskAnswer) (after : List ℕ) : Type 0 where
+  pub answered : answer .outcome ≡ outcome
+  pub the-bytes : take (length bytes) after ≡ bytes
+  pub the-rest : drop (length bytes) after ≡ drop (length bytes) before

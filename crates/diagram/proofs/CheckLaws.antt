@@ -26,7 +26,7 @@ module _ (d : Lent) (answer : CheckAnswer) (promise : CheckPromise d answer) whe
 
   -- each number from 1 to 6 is given exactly when its row is due and none before it is
   pub check-exactly-when : ExactlyWhen (checkTable d) (λ r. answer .outcome ≡ Refused r)
-  check-exactly-when = exactly-when (checkRules d) (checkTable d) (check-faithful d) tt answer-refused
+  check-exactly-when = exactly-when (checkRules d) (checkTable d) (check-faithful d) answer-refused
 
   sound-said : Sound d → answer .outcome ≡ IsSound (countsOf d)
   sound-said s = check-said-once (answer .outcome) _ (promise .says ∙ rw (sound-passed d s))

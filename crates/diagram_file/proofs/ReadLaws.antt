@@ -5,7 +5,7 @@ use Prim.Native.Nat.{ℕ, _+_, _≤_, _<_}
 use lib.ListN.{length}
 use borrow.Author.Tests.{le-leb, lt-leb}
 use Rattle.refusal.specs.Rules.{Rule, refusal, chain}
-use Rattle.refusal.specs.Table.{ExactlyInTurn}
+use Rattle.refusal.specs.Table.{ExactlyWhen}
 use Rattle.refusal.specs.declared.Refusal.{Refusal}
 use Rattle.refusal.specs.declared.Verdict.the-variants as verdict
 use Rattle.refusal.proofs.AnsweredLaws.{by-refusal, by-result, first-refuse, goes-on, Told, told}
@@ -62,8 +62,8 @@ module _ (text : List ℕ) (before : Lent) (answer : FileAnswer) (after : Lent) 
   tells = told fileSaid file-said-once Refused (λ r. refl) promise
 
   -- 20 and 21 are given exactly when a row of the table gives them, line by line
-  pub file-exactly-when : ExactlyInTurn (fileTable text (roomOf before)) (λ r. answer .outcome ≡ Refused r)
-  file-exactly-when = tells .told-in-turn (fileTable text (roomOf before)) (file-faithful text (roomOf before))
+  pub file-exactly-when : ExactlyWhen (fileTable text (roomOf before)) (λ r. answer .outcome ≡ Refused r)
+  file-exactly-when = tells .told-when (fileTable text (roomOf before)) (file-faithful text (roomOf before))
 
   -- a refusal keeps the lists
   pub file-keeps : (r : Refusal) → answer .outcome ≡ Refused r → after ≡ before

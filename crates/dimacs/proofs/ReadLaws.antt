@@ -28,7 +28,7 @@ use Rattle.dimacs.specs.Rules.{tokenRules, endRules, tokensFrom, headerS
 use Rattle.dimacs.specs.Read.{readSaid, tallyRead, ReadBy, ReadPromise, read-said-once}
 use Rattle.dimacs.specs.declared.TextRead.the-variants.{Read, Refused}
 use Rattle.dimacs.specs.declared.ReadAnswer.{ReadAnswer}
-use Rattle.dimacs.proofs.ReadTable.{tableRules, table-chain, table-faithful}
+use Rattle.dimacs.proofs.ReadTable.{read-faithful}
 
 -- ---- how it comes to its answer
 
@@ -127,17 +127,12 @@ module _ (text : List ℕ) (before : List ℤ) where
   tallied = tallyRead (textWords text) (headerVariables text)
 
   module _ (answer : ReadAnswer) (after : List ℤ) (promise : ReadPromise text before answer after) where
-    tells : Told readSaid Refused (tableRules text (length before)) (tallySaid tallied) (over (textWords text) before) before (answer .outcome) after
-    tells =
-        told readSaid read-said-once Refused (λ r. refl)
-        (record {
-          says = promise .says ∙ ap (λ (v : Verdict). saying v (tallySaid tallied)) (table-chain text (length before));
-          buffer = promise .buffer ∙ ap (λ (v : Verdict). leaving v (over (textWords text) before) before) (table-chain text (length before));
-        })
+    tells : Told readSaid Refused (readRules text (length before)) (tallySaid tallied) (over (textWords text) before) before (answer .outcome) after
+    tells = told readSaid read-said-once Refused (λ r. refl) promise
 
-    -- each of the numbers 17, 16, 18, 14, 15, 19 and 7 is given exactly when its row is due and none before it is
+    -- each of the numbers 17, 16, 18, 14, 15, 19 and 7 is given exactly when the first row that is due gives it
     pub read-exactly-when : ExactlyWhen (readTable text (length before)) (λ r. answer .outcome ≡ Refused r)
-    read-exactly-when = tells .told-when (readTable text (length before)) (table-faithful text (length before)) tt
+    read-exactly-when = tells .told-when (readTable text (length before)) (read-faithful text (length before))
 
     -- a refusal keeps the list
     pub read-keeps : (r : Refusal) → answer .outcome ≡ Refused r → after ≡ before
@@ -146,10 +141,9 @@ module _ (text : List ℕ) (before : List ℤ) where
     -- "read" is answered with counts exactly when the rules pass and the counts are those of the text's words, with V
     pub read-exactly : (t : Tally) → (answer .outcome ≡ Read t) ↔ ((chain (readRules text (length before)) ≡ Passed) × (t ≡ tallied))
     read-exactly t =
-        let w = tells .told-result (Read t) _ _ refl in
-        let e = table-chain text (length before) in (
-          (λ q. let p = w .0 q in (e ∙ p .0, tally-said-once t tallied (ap (λ (s : Said). s .values) (p .1)))),
-          (λ p. w .1 (sym e ∙ p .0, ap (λ (t : Tally). result (tallySaid t)) (p .1))),
+        let w = tells .told-result (Read t) _ _ refl in (
+          (λ q. let p = w .0 q in (p .0, tally-said-once t tallied (ap (λ (s : Said). s .values) (p .1)))),
+          (λ p. w .1 (p .0, ap (λ (t : Tally). result (tallySaid t)) (p .1))),
         )
 
     -- the list's front is exactly the text's words, and what lies past them is kept
@@ -157,5 +151,5 @@ module _ (text : List ℕ) (before : List ℤ) where
     read-list t q =
         let w = read-exactly t .0 q in
         let n : t .words ≡ length (textWords text) = ap (λ (t : Tally). t .words) (w .1) in
-        let b : after ≡ over (textWords text) before = tells .told-leaves (sym (table-chain text (length before)) ∙ w .0) in
+        let b : after ≡ over (textWords text) before = tells .told-leaves (w .0) in
         over-parts (textWords text) before n b

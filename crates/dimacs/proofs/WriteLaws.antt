@@ -69,7 +69,7 @@ module _ (v : ℕ) (ws : List ℤ) where
 
       -- each of the numbers 16, 14, 15 and 7 is given exactly when its row is due and none before it is
       pub write-exactly-when : ExactlyWhen (writeTable v ws (length before)) (λ r. answer .outcome ≡ Refused r)
-      write-exactly-when = tells .told-when (writeTable v ws (length before)) write-faithful tt
+      write-exactly-when = tells .told-when (writeTable v ws (length before)) write-faithful
 
       -- a refusal keeps the buffer
       pub write-keeps : (r : Refusal) → answer .outcome ≡ Refused r → after ≡ before

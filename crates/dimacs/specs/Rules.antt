@@ -3,17 +3,17 @@
 use mathlib.Core.Path.{_≡_}
 use mathlib.Core.Bool.{true, false, not}
 use mathlib.Core.List.{List, [], _∷_, _++_}
-use Prim.Native.Nat.{ℕ, _≤_, _<_}
+use Prim.Native.Nat.{ℕ, _≤_}
 use lib.Dec.{eqb}
 use lib.IntN.{ℤ, natAbs}
-use lib.ListN.{length, drop, getD}
+use lib.ListN.{length, drop}
 use Rattle.lists.specs.First.{foundIf}
 use Rattle.lists.specs.Signed.{beyond}
 use Rattle.refusal.specs.Rules.{Rule, rule, roomRule}
 use Rattle.refusal.specs.Table.{Row, row, roomRow}
 use Rattle.cnf.specs.Words.{zeros, closed}
 use Rattle.cnf.specs.Lent.{CountsFit, tooMany}
-use Rattle.dimacs.specs.Tokens.{Token, tokens, formed, wordOf, Good, wordsOf}
+use Rattle.dimacs.specs.Tokens.{Token, tokens, formed, wordOf, wordsOf}
 use Rattle.dimacs.specs.Header.{comments, HeaderLine, variablesAt, clausesAt, isHeader, afterHeader}
 
 -- tokens are judged from the left, 18 before 14 for one token, for variables up to v
@@ -30,9 +30,13 @@ endRules size clauses ws room =
     ∷ roomRule (length ws) room
     ∷ []
 
--- the token with the index k
-abbrev pub tokenOf : List Token → ℕ → Token
-tokenOf ts k = getD ts k (record { start = 0; bytes = [] })
+-- the same as a table: a token's place is its start
+abbrev pub tokenTable : ℕ → List Token → List Row
+tokenTable v [] = []
+tokenTable v (t ∷ ts) =
+    row 18 (λ p. (p ≡ t .start) × (formed (t .bytes) ≡ true → ⊥))
+    ∷ row 14 (λ p. (p ≡ t .start) × (natAbs (wordOf (t .bytes)) ≤ v → ⊥))
+    ∷ tokenTable v ts
 
 module _ (text : List ℕ) where
   -- where the header's line begins, and what it says (cut at 10,000,000,000, above both limits)
@@ -68,33 +72,13 @@ module _ (text : List ℕ) where
 
   -- ---- the table
 
-  -- the bytes of the token with the index k, and its place
-  abbrev pub tokenBytes : ℕ → List ℕ
-  tokenBytes k = tokenOf textTokens k .bytes
-
-  abbrev pub tokenStart : ℕ → ℕ
-  tokenStart k = tokenOf textTokens k .start
-
-  abbrev pub Formed : ℕ → Type 0
-  Formed k = formed (tokenBytes k) ≡ true
-
-  abbrev pub InRange : ℕ → Type 0
-  InRange k = natAbs (wordOf (tokenBytes k)) ≤ headerVariables
-
-  -- the token with the index k begins at the place p, and those before it are good: where it is bad itself, it is the first
-  pub record FirstAt (k p : ℕ) : Type 0 where
-    pub is-token : k < length textTokens
-    pub begins : p ≡ tokenStart k
-    pub before : (j : ℕ) → j < k → Good headerVariables (tokenBytes j)
-
   -- looked for in this order: 16 is asked only of a line that has the form, and the later ones only after such a header
   abbrev pub readTable : ℕ → List Row
   readTable room =
       row 17 (λ p. (p ≡ headerStart) × ((ds es rest : List ℕ) → HeaderLine (drop headerStart text) ds es rest → ⊥))
       ∷ row 16 (λ p. (p ≡ headerStart) × (CountsFit headerVariables headerClauses → ⊥))
-      ∷ row 18 (λ p. (k : ℕ) × FirstAt k p × (Formed k → ⊥))
-      ∷ row 14 (λ p. (k : ℕ) × FirstAt k p × Formed k × (InRange k → ⊥))
-      ∷ row 15 (λ p. (p ≡ length text) × (closed textWords ≡ true → ⊥))
+      ∷ (tokenTable headerVariables textTokens
+      ++ (row 15 (λ p. (p ≡ length text) × (closed textWords ≡ true → ⊥))
       ∷ row 19 (λ p. (p ≡ zeros textWords) × (zeros textWords ≡ headerClauses → ⊥))
       ∷ roomRow (length textWords) room
-      ∷ []
+      ∷ []))

@@ -50,7 +50,7 @@ module _ (e : Edition) (d : Lent) where
   module _ (before : List ℤ) (answer : EncodeAnswer) (after : List ℤ) (promise : EncodePromise e d before answer after) where
     -- each number from 1 to 7 is given exactly when its row is due and none before it is
     pub encode-exactly-when : ExactlyWhen (encodeTable e d (length before)) (λ r. answer .outcome ≡ Refused r)
-    encode-exactly-when = encoded-exactly-when (clauses e d) (lastVariable e d) before (encodeRules e d (length before)) answer after promise (encodeTable e d (length before)) (encode-faithful (length before)) tt
+    encode-exactly-when = encoded-exactly-when (clauses e d) (lastVariable e d) before (encodeRules e d (length before)) answer after promise (encodeTable e d (length before)) (encode-faithful (length before))
 
     -- a refusal keeps the buffer
     pub encode-keeps : (r : Refusal) → answer .outcome ≡ Refused r → after ≡ before

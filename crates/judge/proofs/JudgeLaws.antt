@@ -84,7 +84,7 @@ module _ (d : Lent) (build : List ℕ) where
 
     -- each of the numbers 1 to 6, 8 and 9 is given exactly when its row is due and none before it is
     pub judge-exactly-when : ExactlyWhen (judgeTable d build) (λ r. answer .outcome ≡ Refused r)
-    judge-exactly-when = exactly-when (judgeRules d build) (judgeTable d build) judge-faithful tt refused-exactly
+    judge-exactly-when = exactly-when (judgeRules d build) (judgeTable d build) judge-faithful refused-exactly
 
     -- the two results: the walk's test, and what it is for
     results : (o : Judged) (b : Bool) (u : ℕ) → judgeSaid o ≡ result (u ∷ []) → u ≡ cond b 1 0 → Sound d × Fits d build → allowsTest d build ≡ b → answer .outcome ≡ o

@@ -124,7 +124,7 @@ module _ (d : Lent) (m : List ℤ) where
 
       -- each of the numbers 1 to 7 and 10 to 13 is given exactly when its row is due and none before it is
       pub model-exactly-when : ExactlyWhen (modelTable d m e (length before)) (λ r. answer .outcome ≡ Refused r)
-      model-exactly-when = tells .told-when (modelTable d m e (length before)) (model-faithful (length before)) tt
+      model-exactly-when = tells .told-when (modelTable d m e (length before)) (model-faithful (length before))
 
       -- a refusal keeps the list
       pub model-keeps : (r : Refusal) → answer .outcome ≡ Refused r → after ≡ before

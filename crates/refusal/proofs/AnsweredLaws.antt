@@ -3,17 +3,16 @@ use mathlib.Core.Path.{_≡_, refl, sym, _∙_, ap}
 use mathlib.Core.Logic.{_↔_}
 use mathlib.Core.List.{List, _∷_, _++_}
 use Prim.Native.Nat.{ℕ}
-use lib.Dec.{T}
 use Rattle.refusal.specs.Rules.{Rule, chain}
 use Rattle.refusal.specs.Said.{Said, refused, result, saying, leaving}
 use Rattle.refusal.specs.Answered.{AnsweredBy}
-use Rattle.refusal.specs.Table.{Row, numbers, ExactlyWhen, ExactlyInTurn}
+use Rattle.refusal.specs.Table.{Row, ExactlyWhen}
 use Rattle.refusal.specs.declared.Refusal.{Refusal}
 use Rattle.refusal.specs.declared.Verdict.{Verdict}
 use Rattle.refusal.specs.declared.Verdict.the-variants.{Passed, Refused}
 use Rattle.refusal.proofs.RulesLaws.{refuses, passes}
 use Rattle.refusal.proofs.SaidLaws.{refused-as, said-passed}
-use Rattle.refusal.proofs.TableLaws.{eachOnce, Faithful, exactly-when, exactly-in-turn}
+use Rattle.refusal.proofs.TableLaws.{Faithful, exactly-when}
 
 -- ---- how it comes to its answer
 
@@ -41,10 +40,8 @@ module _ {A B : Type 0} (said : A → Said) (values : List ℕ) (written before 
 -- ---- what it tells, where `no` makes a refusal an answer
 
 pub record Told {A B : Type 0} (said : A → Said) (no : Refusal → A) (rules : List Rule) (values : List ℕ) (written before : B) (answer : A) (after : B) : Type 1 where
-  -- where the rules compute a table: each number is given exactly when its row is due and none before it is
-  pub told-when : (table : List Row) → Faithful rules table → T (eachOnce (numbers table)) → ExactlyWhen table (λ r. answer ≡ no r)
-  -- or it is the first row that is due, where a number stands in several
-  pub told-in-turn : (table : List Row) → Faithful rules table → ExactlyInTurn table (λ r. answer ≡ no r)
+  -- where the rules compute a table: each number is given exactly when the first row that is due gives it
+  pub told-when : (table : List Row) → Faithful rules table → ExactlyWhen table (λ r. answer ≡ no r)
   -- a refusal keeps the buffer
   pub told-keeps : (r : Refusal) → answer ≡ no r → after ≡ before
   -- an answer that says values is given exactly when the rules pass and these are the result's
@@ -57,8 +54,7 @@ module _ {A B : Type 0} (said : A → Said) (once : (a b : A) → said a ≡ sai
   pub told : {rules : List Rule} {v : ℕ} {vs : List ℕ} {written before : B} {answer : A} {after : B} → AnsweredBy said rules (v ∷ vs) written before answer after → Told said no rules (v ∷ vs) written before answer after
   told {rules} {v} {vs} {answer = answer} promise =
       record {
-        told-when = λ table f t. exactly-when rules table f t refused-exactly;
-        told-in-turn = λ table f. exactly-in-turn rules table f refused-exactly;
+        told-when = λ table f. exactly-when rules table f refused-exactly;
         told-keeps = λ r q. promise .buffer ∙ rw (refused-exactly r .0 q);
         told-result = λ given u us e. (
           (λ q. let p = said-passed (chain rules) u us v vs (sym (ap said q ∙ e) ∙ promise .says) in (p, ap said (sym q) ∙ promise .says ∙ rw p)),
