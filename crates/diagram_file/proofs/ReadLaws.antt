@@ -1,13 +1,15 @@
 -- How `read_diagram` comes to its answer, and what its answer tells. Assumes nothing.
 use mathlib.Core.Path.{_≡_, refl, ap, subst}
+use mathlib.Core.Logic.{_↔_}
 use mathlib.Core.List.{List, _++_}
 use Prim.Native.Nat.{ℕ, _+_, _≤_, _<_}
 use lib.ListN.{length}
 use borrow.Author.Tests.{le-leb, lt-leb}
 use Rattle.refusal.specs.Rules.{Rule, refusal, chain}
-use Rattle.refusal.specs.Table.{ExactlyWhen}
+use Rattle.refusal.specs.Table.{NoneDue, ExactlyWhen}
 use Rattle.refusal.specs.declared.Refusal.{Refusal}
 use Rattle.refusal.specs.declared.Verdict.the-variants as verdict
+use Rattle.refusal.proofs.TableLaws.{passed-exactly}
 use Rattle.refusal.proofs.AnsweredLaws.{by-refusal, by-result, first-refuse, goes-on, Told, told}
 use Rattle.diagram.specs.Lent.{Lent, lent}
 use Rattle.diagram_file.specs.Lines.{valueOf}
@@ -16,6 +18,7 @@ use Rattle.diagram_file.specs.Rules.{partRules, endRules, fileRules, fil
 use Rattle.diagram_file.specs.Promise.{sizes, sizesSaid, sizesOf, fileSaid, roomOf, overLent, FileBy, FilePromise, sizes-same, file-said-once}
 use Rattle.diagram_file.specs.Judged.{Stands, PartJudged}
 use Rattle.diagram_file.specs.declared.Sizes.{Sizes}
+use Rattle.diagram_file.specs.declared.FileRead.{FileRead}
 use Rattle.diagram_file.specs.declared.FileRead.the-variants.{Read, Refused}
 use Rattle.diagram_file.specs.declared.FileAnswer.{FileAnswer}
 use Rattle.diagram_file.specs.declared.Counted.{Counted}
@@ -57,6 +60,10 @@ module _ (text : List ℕ) (before : Lent) where
 
 -- ---- what its answer tells
 
+sizesIn : FileRead → Sizes
+sizesIn (Read s) = s
+sizesIn (Refused r) = sizes 0 0 0
+
 module _ (text : List ℕ) (before : Lent) (answer : FileAnswer) (after : Lent) (promise : FilePromise text before answer after) where
   tells : Told fileSaid Refused (fileRules text (roomOf before)) (sizesSaid (sizesOf text)) (overLent (fileDiagram text) before) before (answer .outcome) after
   tells = told fileSaid file-said-once Refused (λ r. refl) promise
@@ -68,3 +75,17 @@ module _ (text : List ℕ) (before : Lent) (answer : FileAnswer) (after : Lent) 
   -- a refusal keeps the lists
   pub file-keeps : (r : Refusal) → answer .outcome ≡ Refused r → after ≡ before
   file-keeps = tells .told-keeps
+
+  -- "read" is answered with sizes exactly when no row of the table is due and they are the file's
+  pub file-exactly : (s : Sizes) → (answer .outcome ≡ Read s) ↔ (NoneDue (fileTable text (roomOf before)) × (s ≡ sizesOf text))
+  unfolding sizesIn
+  file-exactly s =
+      let w = tells .told-result (Read s) _ _ refl in
+      let n = passed-exactly (fileRules text (roomOf before)) (fileTable text (roomOf before)) (file-faithful text (roomOf before)) in (
+        (λ q. let p = w .0 q in (n .0 (p .0), ap sizesIn (file-said-once (Read s) (Read (sizesOf text)) (p .1)))),
+        (λ p. w .1 (n .1 (p .0), ap (λ (s : Sizes). fileSaid (Read s)) (p .1))),
+      )
+
+  -- and then the lists begin with the file's diagram, and hold past it what they held before
+  pub file-lists : (s : Sizes) → answer .outcome ≡ Read s → after ≡ overLent (fileDiagram text) before
+  file-lists s q = tells .told-leaves (tells .told-result (Read s) _ _ refl .0 q .0)

@@ -11,11 +11,11 @@ use borrow.Author.Tests.{eq-eqb, ne-eqb}
 use Rattle.lists.specs.Buffer.{over}
 use Rattle.lists.proofs.BufferLaws.{over-parts}
 use Rattle.refusal.specs.Rules.{Rule, refusal, chain}
-use Rattle.refusal.specs.Said.{Said, result, saying, leaving}
-use Rattle.refusal.specs.Table.{ExactlyWhen}
+use Rattle.refusal.specs.Said.{Said, result}
+use Rattle.refusal.specs.Table.{NoneDue, ExactlyWhen}
 use Rattle.refusal.specs.declared.Refusal.{Refusal}
-use Rattle.refusal.specs.declared.Verdict.{Verdict}
 use Rattle.refusal.specs.declared.Verdict.the-variants.{Passed, Refused as Refusing}
+use Rattle.refusal.proofs.TableLaws.{passed-exactly}
 use Rattle.refusal.proofs.RoomLaws.{too-short, long-enough}
 use Rattle.refusal.proofs.AnsweredLaws.{by-refusal, by-result, first-refuse, goes-on, Told, told}
 use Rattle.cnf.specs.Words.{zeros, closed}
@@ -138,18 +138,25 @@ module _ (text : List ℕ) (before : List ℤ) where
     pub read-keeps : (r : Refusal) → answer .outcome ≡ Refused r → after ≡ before
     read-keeps = tells .told-keeps
 
-    -- "read" is answered with counts exactly when the rules pass and the counts are those of the text's words, with V
-    pub read-exactly : (t : Tally) → (answer .outcome ≡ Read t) ↔ ((chain (readRules text (length before)) ≡ Passed) × (t ≡ tallied))
-    read-exactly t =
+    -- "read" is answered with counts exactly when nothing is refused and the counts are those of the text's words, with V
+    pub read-passed : (t : Tally) → (answer .outcome ≡ Read t) ↔ ((chain (readRules text (length before)) ≡ Passed) × (t ≡ tallied))
+    read-passed t =
         let w = tells .told-result (Read t) _ _ refl in (
           (λ q. let p = w .0 q in (p .0, tally-said-once t tallied (ap (λ (s : Said). s .values) (p .1)))),
           (λ p. w .1 (p .0, ap (λ (t : Tally). result (tallySaid t)) (p .1))),
         )
 
+    -- the same in words: no row of the table is due
+    pub read-exactly : (t : Tally) → (answer .outcome ≡ Read t) ↔ (NoneDue (readTable text (length before)) × (t ≡ tallied))
+    read-exactly t =
+        let w = read-passed t in
+        let n = passed-exactly (readRules text (length before)) (readTable text (length before)) (read-faithful text (length before)) in
+        ((λ q. let p = w .0 q in (n .0 (p .0), p .1)), (λ p. w .1 (n .1 (p .0), p .1)))
+
     -- the list's front is exactly the text's words, and what lies past them is kept
     pub read-list : (t : Tally) → answer .outcome ≡ Read t → (take (t .words) after ≡ textWords text) × (drop (t .words) after ≡ drop (t .words) before)
     read-list t q =
-        let w = read-exactly t .0 q in
+        let w = read-passed t .0 q in
         let n : t .words ≡ length (textWords text) = ap (λ (t : Tally). t .words) (w .1) in
         let b : after ≡ over (textWords text) before = tells .told-leaves (w .0) in
         over-parts (textWords text) before n b

@@ -31,7 +31,7 @@ use Rattle.dimacs.specs.declared.TextRead.the-variants.{Read}
 use Rattle.dimacs.proofs.HeaderLaws.{HeaderSays, line-header, no-comments, text-header}
 use Rattle.dimacs.proofs.BodyLaws.{body-words, body-passes}
 use Rattle.dimacs.proofs.WriteLaws.{written-exactly, written-text}
-use Rattle.dimacs.proofs.ReadLaws.{read-exactly}
+use Rattle.dimacs.proofs.ReadLaws.{read-passed}
 
 module _ (v : ℕ) (ws : List ℤ) (w : WellWords v ws) where
   -- each word is in range
@@ -91,7 +91,7 @@ module _ (v : ℕ) (ws : List ℤ) (w : WellWords v ws) where
   text-read lent list read promise h =
       let q = text-passes (length lent) h in
       let t : tallyRead (textWords text) (headerVariables text) ≡ tallyRead ws v = rw (text-words, text-variables) in (
-        read-exactly text lent read list promise (tallyRead ws v) .1 (q, sym t),
+        read-passed text lent read list promise (tallyRead ws v) .1 (q, sym t),
         promise .buffer ∙ rw (q, text-words),
       )
 

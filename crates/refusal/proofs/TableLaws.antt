@@ -74,6 +74,9 @@ none-pass [] (r ∷ table) f g = absurd f
 none-pass (r ∷ rules) [] f g = absurd f
 none-pass (rule k found ∷ rules) (row m due ∷ table) f g = let z = nowhere found (λ q d. g .0 q (f .1 q .0 d)) in rw z (none-pass rules table (f .2 z) (g .1))
 
+pub passed-exactly : (rules : List Rule) (table : List Row) → Faithful rules table → (chain rules ≡ Passed) ↔ NoneDue table
+passed-exactly rules table f = (pass-none rules table f, none-pass rules table f)
+
 pub passes-or-refuses : (v : Verdict) → ((r : Refusal) → v ≡ Refused r → ⊥) → v ≡ Passed
 passes-or-refuses Passed h = refl
 passes-or-refuses (Refused r) h = absurd (h r refl)
