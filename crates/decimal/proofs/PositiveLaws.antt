@@ -1,11 +1,9 @@
--- Laws of a decimal of a number other than 0: what leads it, and up to eight digits read without a cut. Assumes nothing.
+-- Laws of a decimal of a number other than 0: what leads it. Assumes nothing.
 use mathlib.Core.Path.{_≡_, refl, sym, ap, _∙_}
 use mathlib.Core.Logic.{_⊎_, inl, inr}
 use mathlib.Core.Bool.{Bool, true, false, not, cond, _&&_, and-true, and-false, and-eq-true-iff}
 use mathlib.Core.List.{List, [], _∷_}
-use Prim.Native.Nat.{ℕ, _+_, _-_, _*_, _^_, _≤_, _<_}
-use native.Mathlib.Nat.{add-zero, pow-suc, pow-le-pow-right}
-use native.Mathlib.Numerals.{add-one}
+use Prim.Native.Nat.{ℕ, _+_, _-_, _*_, _≤_, _<_}
 use native.Mathlib.Omega.{arith}
 use lib.Dec.{leb, ltb, eqb}
 use lib.ListN.{length, getD, drop}
@@ -15,7 +13,7 @@ use Rattle.decimal.specs.Digits.{isDigit, allDigits, plain, isDecimal, v
 use Rattle.decimal.specs.Reading.{run, cut, readingAt, leadsAt, positiveAt}
 use Rattle.decimal.specs.declared.Reading.{Reading}
 use Rattle.decimal.proofs.DigitsLaws.{digit-range}
-use Rattle.decimal.proofs.RunLaws.{run-more, run-stop, run-end, run-decimal, Came, came-none, came-more}
+use Rattle.decimal.proofs.RunLaws.{run-more, run-stop, run-end, run-decimal}
 
 -- ---- what leads it
 
@@ -112,28 +110,3 @@ module _ (s : List ℕ) (at : ℕ) where
           not-good : (at < length s) ⊎ (length s ≤ at) → isDecimal (run (drop at s)) ≡ false
           not-good (inl l) = at-byte l (isDigit (getD s at 0)) refl
           not-good (inr l) = rw (run-end s at l) nothing-decimal
-
--- ---- up to eight digits
-
--- k digits say less than 10 ^ k
-pub record Few (s : List ℕ) (at v k : ℕ) : Type 0 where
-  pub count : k ≤ 8
-  pub less : v < 10 ^ k
-  pub came : Came s at v (at + k)
-
-pub few-none : (s : List ℕ) (at : ℕ) → Few s at 0 0
-few-none s at = record { count = omega arith; less = omega arith; came = rw (add-zero at) (came-none s at) }
-
-pub few-small : {s : List ℕ} {at v k : ℕ} → Few s at v k → v < 100000000
-few-small {k = k} f = omega (arith, f .less, pow-le-pow-right {n = 10} (omega arith) (f .count))
-
-pub few-more : (s : List ℕ) (at v k : ℕ) → Few s at v k → k < 8 → at + k < length s → isDigit (getD s (at + k) 0) ≡ true → Few s at (v * 10 + (getD s (at + k) 0 - 48)) (k + 1)
-few-more s at v k f h l d =
-    let r = digit-range (getD s (at + k) 0) d in
-    let m = few-small f in
-    let e : at + k + 1 ≡ at + (k + 1) = omega arith in
-    record {
-      count = omega arith;
-      less = rw (add-one k) (omega (arith, f .less, pow-suc 10 k));
-      came = rw e at (came-more s at v (at + k) (f .came) (v * 10 + (getD s (at + k) 0 - 48)) l d (omega arith));
-    }

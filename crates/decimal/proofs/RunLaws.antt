@@ -1,9 +1,8 @@
--- Laws of the digits that stand at a place of a text, of their reading digit by digit, and of a number that was cut. Assumes
--- nothing.
-use mathlib.Core.Path.{_≡_, refl, sym, ap, _∙_}
+-- Laws of the digits that stand at a place of a text, and of a number that was cut. Assumes nothing.
+use mathlib.Core.Path.{_≡_, refl, ap, _∙_}
 use mathlib.Core.Bool.{Bool, true, false, not, cond}
 use mathlib.Core.List.{List, [], _∷_, _++_, append-nil}
-use Prim.Native.Nat.{ℕ, zero, suc, _+_, _-_, _*_, _≤_, _<_}
+use Prim.Native.Nat.{ℕ, suc, _+_, _≤_, _<_}
 use native.Mathlib.Nat.{add-zero}
 use native.Mathlib.Numerals.{add-one}
 use native.Mathlib.Omega.{arith}
@@ -11,9 +10,8 @@ use lib.Dec.{ltb, eqb}
 use lib.ListN.{length, getD, drop, length-drop, drop-of-length-le}
 use lib.Seq.{drop-cons, getD-drop}
 use borrow.Author.Tests.{lt-ltb, le-ltb, eq-eqb, ne-eqb, eqb-true, eqb-false, ltb-true, ltb-false}
-use Rattle.decimal.specs.Digits.{isDigit, allDigits, plain, isDecimal, valueFrom, value, digits}
+use Rattle.decimal.specs.Digits.{isDigit, allDigits, plain, isDecimal}
 use Rattle.decimal.specs.Reading.{run, cut}
-use Rattle.decimal.specs.declared.Reading.{Reading}
 use Rattle.decimal.proofs.DigitsLaws.{all-more, all-first, plain-many}
 
 -- ---- the run at a place
@@ -119,41 +117,3 @@ cut-beyond v n l = go (ltb v n) refl
     go : (t : Bool) → ltb v n ≡ t → ltb v (cut n) ≡ t
     go true e = let h = ltb-true v n e in lt-ltb v (cut n) (omega arith)
     go false e = let h = ltb-false v n e in le-ltb v (cut n) (omega arith)
-
--- ---- reading digit by digit
-
--- a number that was cut stays cut, whatever digits follow
-cut-from : (v : ℕ) (bs : List ℕ) → cut (valueFrom (cut v) bs) ≡ cut (valueFrom v bs)
-unfolding valueFrom
-cut-from v [] = omega arith
-cut-from v (b ∷ bs) =
-    let e : cut (cut v * 10 + (b - 48)) ≡ cut (v * 10 + (b - 48)) = omega arith in
-    sym (cut-from (cut v * 10 + (b - 48)) bs) ∙ ap (λ (k : ℕ). cut (valueFrom k bs)) e ∙ cut-from (v * 10 + (b - 48)) bs
-
--- the digits from `at` on are read up to i, and say v so far
-pub record Came (s : List ℕ) (at v i : ℕ) : Type 0 where
-  pub small : v ≤ 10000000000
-  pub says : cut (value (run (drop at s))) ≡ cut (valueFrom v (run (drop i s)))
-  pub ends : at + length (run (drop at s)) ≡ i + length (run (drop i s))
-
-pub came-none : (s : List ℕ) (at : ℕ) → Came s at 0 at
-unfolding value
-came-none s at = record { small = omega arith; says = refl; ends = refl }
-
-module _ (s : List ℕ) (at v i : ℕ) (k : Came s at v i) where
-  pub came-more : (r : ℕ) → i < length s → isDigit (getD s i 0) ≡ true → r ≡ cut (v * 10 + (getD s i 0 - 48)) → Came s at r (i + 1)
-  unfolding valueFrom
-  came-more r h d e = record {
-    small = omega arith;
-    says = k .says ∙ rw (run-more s i h d, e, cut-from);
-    ends = k .ends ∙ rw (run-more s i h d) (omega arith);
-  }
-
-  -- where no digit stands at i, that was all
-  pub came-all : run (drop i s) ≡ [] → (v ≡ cut (value (run (drop at s)))) × (i ≡ at + length (run (drop at s)))
-  unfolding valueFrom
-  came-all e = let m = k .small in (sym (k .says ∙ rw e (omega arith)), sym (k .ends ∙ rw e (omega arith)))
-
--- a reading, field by field
-pub reading-same : {g g′ : Bool} {v v′ e e′ : ℕ} → g ≡ g′ → v ≡ v′ → e ≡ e′ → _≡_ {A = Reading} (record { good = g; value = v; end = e }) (record { good = g′; value = v′; end = e′ })
-reading-same p q r = rw (p, q, r)

@@ -1,5 +1,4 @@
 -- What this crate defines. Assumes nothing.
 pub mod Digits
 pub mod Bytes
-pub mod Writing
 pub mod Reading

@@ -1,18 +1,6 @@
-// Decimals: the one reading and the one writing of a number as text, comparing with fixed bytes and putting them out.
-// Whatever reads or writes a number in text leans on this. Assumes nothing.
-mod fixed;
-mod reader;
-mod writer;
-
-pub use fixed::has;
-pub use fixed::put;
-pub use reader::is_field;
-pub use reader::read;
-pub use reader::read_positive;
-pub use writer::at_least;
-pub use writer::short_width;
-pub use writer::write;
-pub use writer::write_often;
+// Decimals: what a number is as text, its one reading and its one writing, and bytes at a place of a text: definitions
+// (specs/) and their laws (proofs/), and the type of what is read. What computes them is `decimal_reader`, `decimal_writer`
+// and `decimal_width`. Assumes nothing.
 
 // Digits that were read: whether they are a decimal, the number that they say, or 10000000000 where it is more, and the
 // place past the last.

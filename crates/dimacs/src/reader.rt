@@ -66,15 +66,15 @@ fn read_header(text: &[u8], at: usize) -> Header
     ensures { λ r. ⌜ r .formed ≡ isHeader (now (text .entry)) at ⌝ }
     ensures { λ r. ⌜ (r .formed ≡ true → HeaderRead (now (text .entry)) at (r .variables) (r .clauses) (r .next)) ⌝ }
 {
-    if !decimal::has(text, at, &HEAD) {
+    if !decimal_reader::has(text, at, &HEAD) {
         return no_header();
     }
-    let variables = decimal::read(text, at + 6);
-    if !decimal::is_field(text, variables, b' ') {
+    let variables = decimal_reader::read(text, at + 6);
+    if !decimal_reader::is_field(text, variables, b' ') {
         return no_header();
     }
-    let clauses = decimal::read(text, variables.end + 1);
-    if !decimal::is_field(text, clauses, b'\n') {
+    let clauses = decimal_reader::read(text, variables.end + 1);
+    if !decimal_reader::is_field(text, clauses, b'\n') {
         return no_header();
     }
     Header {
@@ -127,7 +127,7 @@ enum Judged {
 fn judge_digits(text: &[u8], from: usize, variables: u32) -> Judged
     ensures { λ r. ⌜ DigitsJudged variables (now (text .entry)) from r ⌝ }
 {
-    let read = decimal::read_positive(text, from);
+    let read = decimal_reader::read_positive(text, from);
     let end = read.end;
     if !read.good {
         return Judged::Misformed;
@@ -146,7 +146,7 @@ fn judge_plain(text: &[u8], at: usize, variables: u32) -> Judged
     requires { ⌜ (at < length (now text)) × (isGap (getD (now text) at 0) ≡ false) × (eqb (getD (now text) at 0) 45 ≡ false) × (variables ≤ 1000000) ⌝ }
     ensures { λ r. ⌜ TokenJudged variables (now (text .entry)) at r ⌝ }
 {
-    let read = decimal::read(text, at);
+    let read = decimal_reader::read(text, at);
     let end = read.end;
     if !read.good {
         return Judged::Misformed;
@@ -260,13 +260,13 @@ fn word_at(text: &[u8], at: usize) -> Word
     ensures { λ r. ⌜ (r .value ≡ wordOf (lead (drop at (now (text .entry))))) × (r .end ≡ at + length (lead (drop at (now (text .entry))))) ⌝ }
 {
     if text[at] == b'-' {
-        let read = decimal::read(text, at + 1);
+        let read = decimal_reader::read(text, at + 1);
         return Word {
             value: -(read.value as i32),
             end: read.end,
         };
     }
-    let read = decimal::read(text, at);
+    let read = decimal_reader::read(text, at);
     Word {
         value: read.value as i32,
         end: read.end,

@@ -64,8 +64,8 @@ fn survey_words(words: &[i32], variables: u32) -> Survey
         let word = words[k];
         let variable = variable_cut(word);
         zeros += is_zero(word);
-        beyond += decimal::at_least(variable, variables + 1);
-        size += decimal::short_width(variable) + is_negative(word) + 1;
+        beyond += decimal_width::at_least(variable, variables + 1);
+        size += decimal_width::short_width(variable) + is_negative(word) + 1;
         k += 1;
     }
     Survey {
@@ -97,7 +97,7 @@ fn put_word(word: i32, out: &mut [u8], at: usize) -> usize
         return at + 2;
     }
     let from = put_sign(word, out, at);
-    let end = from + decimal::write_often(cnf::variable_of(word), out, from);
+    let end = from + decimal_pairs::write_often(cnf::variable_of(word), out, from);
     out[end] = b' ';
     end + 1
 }
@@ -120,11 +120,11 @@ fn put_header(variables: u32, clauses: u32, out: &mut [u8]) -> usize
     requires { ⌜ length (headerLine variables clauses) ≤ length (now out) ⌝ }
     ensures { λ r. ⌜ Wrote (now (out .entry)) 0 (headerLine variables clauses) (now (out .exit)) r ⌝ }
 {
-    let a = decimal::put(&HEAD, out, 0);
-    let b = a + decimal::write(variables as u64, out, a);
+    let a = decimal_writer::put(&HEAD, out, 0);
+    let b = a + decimal_writer::write(variables as u64, out, a);
     out[b] = b' ';
     let c = b + 1;
-    let d = c + decimal::write(clauses as u64, out, c);
+    let d = c + decimal_writer::write(clauses as u64, out, c);
     out[d] = b'\n';
     d + 1
 }
@@ -151,8 +151,8 @@ fn write_checked(
     ensures { λ r. ⌜ WritePromise variables (now (words .entry)) (now (out .entry)) r (now (out .exit)) ⌝ }
 {
     let need = (8
-        + decimal::short_width(variables)
-        + decimal::short_width(clauses)
+        + decimal_width::short_width(variables)
+        + decimal_width::short_width(clauses)
         + size) as usize;
     if out.len() < need {
         return refused(Refusal::ROOM, need);
