@@ -53,7 +53,7 @@ pub extern "C" fn bb_check(domains: &[u32], layers: &[u32], targets: &[u32], ans
     if answer.len() < ENTRIES {
         return;
     }
-    let checked = diagram::check(domains, layers, targets);
+    let checked = soundness::check(domains, layers, targets);
     let outcome = checked.outcome;
     match outcome {
         Checked::Refused(r) => post_refusal(answer, r),

@@ -1,7 +1,6 @@
 -- The laws of this crate that others cite. Assumes nothing.
 pub mod ShapedLaws
 pub mod RangeLaws
-pub mod SpanLaws
 pub mod SoundLaws
 pub mod NumberLaws
 pub mod AllowsLaws

@@ -3,12 +3,12 @@ use mathlib.Core.Path.{_≡_, refl, sym}
 use mathlib.Core.Bool.{Bool, true, false, not, cond, _||_}
 use mathlib.Core.List.{List, []}
 use mathlib.Core.Logic.{_⊎_, inl, inr, ⊎-elim}
-use Prim.Native.Nat.{ℕ, zero, suc, _+_, _-_, _≤_, _<_}
+use Prim.Native.Nat.{ℕ, zero, suc, _-_, _≤_, _<_}
 use native.Mathlib.Nat.{le-refl, eq-or-lt-of-le}
 use native.Mathlib.Numerals.{unary-clauses}
 use native.Mathlib.Omega.{arith}
 use lib.Dec.{ltb, eqb}
-use borrow.Author.Tests.{ltb-true, ltb-false, eqb-true, eqb-false, ne-eqb, not-true, not-false}
+use borrow.Author.Tests.{ltb-true, ltb-false, eqb-true, eqb-false, not-true, not-false}
 use Rattle.lists.specs.First.{foundIf, first, FirstFailing}
 use Rattle.lists.proofs.UptoLaws.{both-false, Sums, sums, sum-most}
 use Rattle.lists.proofs.FirstLaws.{Tests, tests-one, tests-each}
@@ -16,9 +16,8 @@ use Rattle.refusal.specs.Rules.{chain}
 use Rattle.refusal.specs.declared.Verdict.the-variants.{Passed}
 use Rattle.refusal.proofs.RulesLaws.{not-due}
 use Rattle.diagram.specs.Lent.{Lent, lent, options, nodes, domain, layer, asked, width, firstEdge}
-use Rattle.diagram.specs.Sound.{Within, OptionsFit, DomainFits, NodesFit, LayerFits, Shaped}
-use Rattle.diagram.specs.Range.{Rising}
-use Rattle.diagram.specs.Rules.{outside, breaksRule, badDomain, badLayer, optionRules, nodeRules}
+use Rattle.diagram.specs.Sound.{Within, Rising, OptionsFit, DomainFits, NodesFit, LayerFits, Shaped}
+use Rattle.diagram.specs.Rules.{outside, badDomain, badLayer, optionRules, nodeRules}
 
 -- ---- tests
 
@@ -71,14 +70,6 @@ module _ (d : Lent) where
 
           fall : ltb (layer d v) (layer d (v - 1)) ≡ true → ⊥
           fall e = omega (arith, ltb-true (layer d v) (layer d (v - 1)) e, f .rising h)
-
-  -- a node after the root, by its own layer and the one before it
-  pub after-root : (j : ℕ) → badLayer d (1 + j) ≡ breaksRule (options d) (layer d j) (layer d (j + 1))
-  unfolding badLayer
-  after-root j =
-      let e : 1 + j ≡ j + 1 = omega arith in
-      let f : j + 1 - 1 ≡ j = omega arith in
-      rw (e, ne-eqb (j + 1) 0 (λ z. omega arith), f)
 
   -- numbers 1 to 4: what each test is for
   pub tests-1 : Tests (foundIf (outside 1 64 (options d)) 0) (λ p. (p ≡ 0) × (OptionsFit d → ⊥)) (OptionsFit d)
@@ -158,12 +149,3 @@ reshaped ds ls ts us s =
 pub same-edges : (ds ls ts us : List ℕ) (v : ℕ) → firstEdge (lent ds ls ts) v ≡ firstEdge (lent ds ls us) v
 unfolding firstEdge
 same-edges ds ls ts us v = refl
-
--- the rules of the options and of the nodes read no list that comes later
-pub same-option-rules : (ds ls ts : List ℕ) → optionRules (lent ds [] []) ≡ optionRules (lent ds ls ts)
-unfolding optionRules
-same-option-rules ds ls ts = refl
-
-pub same-node-rules : (ds ls ts : List ℕ) → nodeRules (lent ds ls []) ≡ nodeRules (lent ds ls ts)
-unfolding nodeRules badLayer
-same-node-rules ds ls ts = refl

@@ -1,7 +1,7 @@
 -- The rules compute what the table says, and a diagram passes them exactly when it is sound. Assumes nothing.
 use mathlib.Core.Path.{_≡_, refl, sym, _∙_}
 use mathlib.Core.Bool.{Bool, true, false, not, _&&_, true≢false}
-use mathlib.Core.List.{[], _++_}
+use mathlib.Core.List.{[]}
 use Prim.Native.Nat.{ℕ, zero, suc, _+_, _<_}
 use native.Mathlib.Omega.{arith}
 use lib.ListN.{length}
@@ -16,7 +16,7 @@ use Rattle.refusal.proofs.RulesLaws.{passed, not-due}
 use Rattle.refusal.proofs.TableLaws.{Faithful}
 use Rattle.diagram.specs.Lent.{Lent, options, nodes, layer, width, firstEdge, edges, target}
 use Rattle.diagram.specs.Sound.{Permitted, to-false, to-true, to-node, TargetFits, Counted, Sound, checkTable}
-use Rattle.diagram.specs.Rules.{permits, badTarget, optionRules, nodeRules, targetRules, checkRules}
+use Rattle.diagram.specs.Rules.{permits, badTarget, optionRules, nodeRules, shapeRules, targetRules, checkRules}
 use Rattle.diagram.proofs.ShapedLaws.{tests-1, tests-2, tests-3, tests-4, shaped, edge-sums}
 use Rattle.diagram.proofs.RangeLaws.{owner-is}
 
@@ -74,12 +74,12 @@ module _ (d : Lent) where
   pub passed-sound : chain (checkRules d) ≡ Passed → Sound d
   unfolding checkRules targetRules firstEdge
   passed-sound e =
-      let o = passed (optionRules d) (nodeRules d ++ targetRules d) e in
-      let n = passed (nodeRules d) (targetRules d) (o .1) in
-      let t₁ = not-due 5 (foundIf (not (eqb (length (d .targets)) (edges d))) 0) _ (n .1) in
+      let w = passed (shapeRules d) (targetRules d) e in
+      let o = passed (optionRules d) (nodeRules d) (w .0) in
+      let t₁ = not-due 5 (foundIf (not (eqb (length (d .targets)) (edges d))) 0) _ (w .1) in
       let t₂ = not-due 6 (first (badTarget d) (edges d)) [] (t₁ .1) in
       record {
-        shaped = shaped d (o .0) (n .0);
+        shaped = shaped d (o .0) (o .1);
         counted = tests-5 .none .0 (t₁ .0);
         permitted = λ v j hv hj. tests-6 .none .0 (t₂ .0) (firstEdge d v + j) (sum-within (width d) v (nodes d) j hv hj) v j hv hj refl;
       }

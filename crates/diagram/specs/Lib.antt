@@ -2,6 +2,5 @@
 pub mod Lent
 pub mod Sound
 pub mod Rules
-pub mod Range
 pub mod Numbers
 pub mod Promise

@@ -49,6 +49,10 @@ module _ (d : Lent) where
       ∷ rule 4 (first badLayer (nodes d))
       ∷ []
 
+  -- the shape: the domains and the layers
+  abbrev pub shapeRules : List Rule
+  shapeRules = optionRules ++ nodeRules
+
   unfoldable pub targetRules : List Rule
   targetRules =
       rule 5 (foundIf (not (eqb (length (d .targets)) (edges d))) 0)
@@ -56,4 +60,4 @@ module _ (d : Lent) where
       ∷ []
 
   unfoldable pub checkRules : List Rule
-  checkRules = optionRules ++ (nodeRules ++ targetRules)
+  checkRules = shapeRules ++ targetRules

@@ -2,13 +2,17 @@
 use mathlib.Core.Path.{_≡_}
 use mathlib.Core.List.{List, [], _∷_}
 use Prim.Native.Nat.{ℕ, suc, _+_, _-_, _≤_, _<_}
-use lib.ListN.{length}
+use lib.ListN.{length, getD}
 use Rattle.lists.specs.First.{FirstFailing}
 use Rattle.refusal.specs.Table.{Row, row}
 use Rattle.diagram.specs.Lent.{Lent, options, nodes, domain, layer, width, firstEdge, edges, target}
 
 abbrev pub Within : ℕ → ℕ → ℕ → Type 0
 Within low high x = (low ≤ x) × (x ≤ high)
+
+-- layers never fall along the list
+abbrev pub Rising : List ℕ → Type 0
+Rising ls = (u v : ℕ) → u ≤ v → v < length ls → getD ls u 0 ≤ getD ls v 0
 
 -- what each number from 1 to 6 asks for
 module _ (d : Lent) where

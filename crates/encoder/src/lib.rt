@@ -423,7 +423,7 @@ fn encode_sound(
 pub fn encode(domains: &[u32], layers: &[u32], targets: &[u32], out: &mut [i32]) -> EncodeAnswer
     ensures { λ r. ⌜ EncodePromise edition1 (lent (now (domains .entry)) (now (layers .entry)) (now (targets .entry))) (now (out .entry)) r (now (out .exit)) ⌝ }
 {
-    let checked = diagram::check(domains, layers, targets);
+    let checked = soundness::check(domains, layers, targets);
     let outcome = checked.outcome;
     match outcome {
         Checked::Refused(r) => EncodeAnswer {

@@ -115,7 +115,7 @@ fn judge_sound(domains: &[u32], layers: &[u32], targets: &[u32], build: &[u32]) 
 pub fn judge(domains: &[u32], layers: &[u32], targets: &[u32], build: &[u32]) -> JudgeAnswer
     ensures { λ r. ⌜ JudgePromise (lent (now (domains .entry)) (now (layers .entry)) (now (targets .entry))) (now (build .entry)) r ⌝ }
 {
-    let checked = diagram::check(domains, layers, targets);
+    let checked = soundness::check(domains, layers, targets);
     let outcome = checked.outcome;
     match outcome {
         Checked::Refused(r) => JudgeAnswer {

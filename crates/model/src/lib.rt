@@ -452,7 +452,7 @@ pub fn read_model(
 ) -> ModelAnswer
     ensures { λ r. ⌜ ModelPromise edition1 (lent (now (domains .entry)) (now (layers .entry)) (now (targets .entry))) (now (literals .entry)) (now (out .entry)) r (now (out .exit)) ⌝ }
 {
-    let checked = diagram::check(domains, layers, targets);
+    let checked = soundness::check(domains, layers, targets);
     let outcome = checked.outcome;
     match outcome {
         Checked::Refused(r) => ModelAnswer {
