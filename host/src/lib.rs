@@ -148,6 +148,19 @@ pub fn write_text(v: u32, words: &[i32], out: &mut [u8]) -> Result<usize, Refusa
 }
 
 /// Reads clause text into words at the front of `out`. Refusals: 17, 16, 18, 14, 15, 19, 7.
+///
+/// A text that was torn is refused by what is missing, with the place in bytes:
+///
+/// ```
+/// use binnaclebox::read_text;
+///
+/// let mut words = [0; 42];
+/// let mut said = |text: &[u8]| read_text(text, &mut words).unwrap_err().to_string();
+/// assert_eq!(said(b"p cnf 7"), "refusal 17: header line absent or misformed; its line's start 0");
+/// assert_eq!(said(b"p cnf 7 14\n1 2 0\n-1 -"), "refusal 18: misformed token; its start 20");
+/// assert_eq!(said(b"p cnf 7 14\n1 2 0\n-1 -2"), "refusal 15: last clause not closed by 0; length 22");
+/// assert_eq!(said(b"p cnf 7 14\n1 2 0\n"), "refusal 19: clauses found differ from the header; number found 1");
+/// ```
 pub fn read_text(text: &[u8], out: &mut [i32]) -> Result<Encoded, Refusal> {
     ask(|answer| raw::read_text(text, out, answer)).map(encoded)
 }
