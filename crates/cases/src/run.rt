@@ -113,7 +113,7 @@ fn tell_desk(outcome: DeskRun, out: &[u8]) {
 }
 
 fn desk_into(input: &[u8], out: &mut [u8]) {
-    let answer = desk::run(input, out);
+    let answer = desk_run::run(input, out);
     let outcome = answer.outcome;
     tell_desk(outcome, out);
 }

@@ -57,9 +57,12 @@ desk-said-once (Refused r) (Text m) p = let q = ap (λ (s : Said). s .values) p 
 desk-said-once (Refused r) (Told m s) p = let q = ap (λ (s : Said). s .values) p in cc
 desk-said-once (Refused r) (Refused s) p = ap Refused (refused-one r s p)
 
--- any two outcomes that the promise allows are equal: the answers, and what the buffer holds
+-- any two outcomes that a promise allows are equal: the answers, and what the buffer holds
+pub printed-one-outcome : (v : Verdict) (text before : List ℕ) (a b : DeskAnswer) (after after′ : List ℕ) → PrintedBy v text before a after → PrintedBy v text before b after′ → (a ≡ b) × (after ≡ after′)
+printed-one-outcome v text before a b after after′ p q = let w = answered-once desk-said-once p q in (ap (λ (o : DeskRun). record { outcome = o }) (w .0), w .1)
+
 pub desk-one-outcome : (input before : List ℕ) (a b : DeskAnswer) (after after′ : List ℕ) → DeskPromise input before a after → DeskPromise input before b after′ → (a ≡ b) × (after ≡ after′)
-desk-one-outcome input before a b after after′ p q = let w = answered-once desk-said-once p q in (ap (λ (o : DeskRun). record { outcome = o }) (w .0), w .1)
+desk-one-outcome input = printed-one-outcome _ _
 
 -- ---- the same in words
 

@@ -51,7 +51,7 @@ fn main() {
     let mut input = no_input();
     let n = io::read_full(STDIN_FILENO, &mut input);
     let mut out = no_output();
-    let answer = desk::run(&input[..n], &mut out);
+    let answer = desk_run::run(&input[..n], &mut out);
     let outcome = answer.outcome;
     tell(outcome, &out);
 }

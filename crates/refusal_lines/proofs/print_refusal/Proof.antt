@@ -1,4 +1,4 @@
--- `desk::print_refusal` meets its contract: its lines, if they fit. Assumes nothing.
+-- `refusal_lines::print_refusal` meets its contract: its lines, if they fit. Assumes nothing.
 use mathlib.Core.Path.{_≡_, ap, subst}
 use mathlib.Core.List.{List}
 use Prim.Native.Nat.{ℕ, _≤_}
@@ -6,10 +6,10 @@ use native.Mathlib.Omega.{arith}
 use lib.ListN.{length, take}
 use borrow.Author.Needs.{needs}
 use Rattle.decimal.specs.Bytes.{PutPromise}
 use Rattle.desk.specs.Output.{refusalLines}
 use Rattle.desk.proofs.PrintLaws.{lines-most, taken, printed-short, printed-told}
-use Rattle.desk.proofs.print_refusal.Statement.{statement}
-use Rattle.desk.proofs.print_refusal.Tie as tie
+use Rattle.refusal_lines.proofs.print_refusal.Statement.{statement}
+use Rattle.refusal_lines.proofs.print_refusal.Tie as tie
 
 abbrev start : tie.After-put-refusal → tie.Start
 start c = c .before .before .before .before

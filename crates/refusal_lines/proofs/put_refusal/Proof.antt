@@ -1,8 +1,8 @@
--- `desk::put_refusal` meets its contract: two lines. Assumes nothing.
+-- `refusal_lines::put_refusal` meets its contract: two lines. Assumes nothing.
 use borrow.Author.Needs.{needs}
 use Rattle.desk.proofs.PrintLaws.{first-room, second-room, both-lines}
-use Rattle.desk.proofs.put_refusal.Statement.{statement}
-use Rattle.desk.proofs.put_refusal.Tie as tie
+use Rattle.refusal_lines.proofs.put_refusal.Statement.{statement}
+use Rattle.refusal_lines.proofs.put_refusal.Tie as tie
 
 pub put-refusal-spec : {M : Type 1} → statement M
 put-refusal-spec =

@@ -1,13 +1,13 @@
--- `desk::put_named` meets its contract: its parts one after the other. Assumes nothing.
+-- `refusal_lines::put_named` meets its contract: its parts one after the other. Assumes nothing.
 use native.Mathlib.Omega.{arith}
 use borrow.Author.Needs.{needs}
 use Rattle.lists.proofs.BufferLaws.{kept}
 use Rattle.dimacs.proofs.WriterLaws.{LastByte}
 use Rattle.desk.specs.Output.{namedLine}
 use Rattle.desk.proofs.PrintLaws.{named-feed}
 use Prim.Native.Nat.{_+_}
-use Rattle.desk.proofs.put_named.Statement.{statement}
-use Rattle.desk.proofs.put_named.Tie as tie
+use Rattle.refusal_lines.proofs.put_named.Statement.{statement}
+use Rattle.refusal_lines.proofs.put_named.Tie as tie
 
 abbrev start : tie.After-write → tie.Start
 start c = c .before .before .before .before .before .before .before .before

@@ -1,11 +1,11 @@
--- `desk::print_text` meets its contract: what the writer of clause text answers. Assumes nothing.
+-- `diagram_text::print_text` meets its contract: what the writer of clause text answers. Assumes nothing.
 use mathlib.Core.Path.{refl}
 use borrow.Author.Needs.{needs}
 use Rattle.dimacs.specs.declared.TextWritten.the-variants.{Written, Refused}
 use Rattle.desk.specs.declared.DeskRun.the-variants as run
 use Rattle.desk.proofs.RunLaws.{text-printed}
-use Rattle.desk.proofs.print_text.Statement.{statement}
-use Rattle.desk.proofs.print_text.Tie as tie
+use Rattle.diagram_text.proofs.print_text.Statement.{statement}
+use Rattle.diagram_text.proofs.print_text.Tie as tie
 
 abbrev written : tie.After-slice-known2 → tie.After-write-text
 written c = c .before .before

@@ -1,9 +1,9 @@
--- `desk::run` meets its contract: the input is too long, or its lines decide. Assumes nothing.
+-- `desk_run::run` meets its contract: the input is too long, or its lines decide. Assumes nothing.
 use mathlib.Core.Path.{refl}
 use borrow.Author.Needs.{needs}
 use Rattle.desk.proofs.RunLaws.{printed-as, too-long, not-long}
-use Rattle.desk.proofs.run.Statement.{statement}
-use Rattle.desk.proofs.run.Tie as tie
+use Rattle.desk_run.proofs.run.Statement.{statement}
+use Rattle.desk_run.proofs.run.Tie as tie
 
 pub run-spec : {M : Type 1} → statement M
 run-spec =

@@ -1,10 +1,10 @@
--- `desk::encode_in` meets its contract: the refusal, or the text of the words. Assumes nothing.
+-- `diagram_text::encode_in` meets its contract: the refusal, or the text of the words. Assumes nothing.
 use mathlib.Core.Path.{refl}
 use borrow.Author.Needs.{needs}
 use Rattle.diagram.specs.Lent.{lent}
 use Rattle.desk.proofs.RunLaws.{printed-as, list-refused, Listed, listed, listed-text, begins-long}
-use Rattle.desk.proofs.encode_in.Statement.{statement}
-use Rattle.desk.proofs.encode_in.Tie as tie
+use Rattle.diagram_text.proofs.encode_in.Statement.{statement}
+use Rattle.diagram_text.proofs.encode_in.Tie as tie
 
 abbrev start : tie.After-encode → tie.Start
 start c = c .before .before .before .before .before .before

@@ -1,13 +1,13 @@
--- `desk::run_in` meets its contract: the file's refusal, or what is printed of its diagram. Assumes nothing.
+-- `desk_run::run_in` meets its contract: the file's refusal, or what is printed of its diagram. Assumes nothing.
 use mathlib.Core.Path.{_≡_, refl, ap, _∙_}
 use borrow.Author.Needs.{needs}
 use Rattle.refusal.specs.Rules.{chain}
 use Rattle.diagram.specs.Lent.{Lent, lent}
 use Rattle.diagram_file.specs.Promise.{roomOf, sizes-same}
 use Rattle.desk.specs.Output.{mostSizes, listRules, diagramText}
 use Rattle.desk.proofs.RunLaws.{printed-as, begins-long, file-refused, Filled, filled, filled-diagram}
-use Rattle.desk.proofs.run_in.Statement.{statement}
-use Rattle.desk.proofs.run_in.Tie as tie
+use Rattle.desk_run.proofs.run_in.Statement.{statement}
+use Rattle.desk_run.proofs.run_in.Tie as tie
 
 abbrev start : tie.After-read-diagram → tie.Start
 start c = c .before .before .before .before .before .before .before .before .before
