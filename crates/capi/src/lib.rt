@@ -133,7 +133,7 @@ pub extern "C" fn bb_text_write(v: u32, words: &[i32], out: &mut [u8], answer: &
     if answer.len() < ENTRIES {
         return;
     }
-    let written = dimacs::write_text(v, words, out);
+    let written = text_writer::write_text(v, words, out);
     let outcome = written.outcome;
     match outcome {
         TextWritten::Refused(r) => post_refusal(answer, r),
@@ -148,7 +148,7 @@ pub extern "C" fn bb_text_read(text: &[u8], out: &mut [i32], answer: &mut [u64])
     if answer.len() < ENTRIES {
         return;
     }
-    let read = dimacs::read_text(text, out);
+    let read = text_reader::read_text(text, out);
     let outcome = read.outcome;
     match outcome {
         TextRead::Refused(r) => post_refusal(answer, r),

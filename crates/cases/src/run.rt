@@ -63,7 +63,7 @@ pub fn write_into(variables: u32, words: &[i32], out: &mut [u8]) {
     show::say(b" words:");
     show::say_words(words, 0, words.len());
     show::say(b" ->");
-    let answer = dimacs::write_text(variables, words, out);
+    let answer = text_writer::write_text(variables, words, out);
     let outcome = answer.outcome;
     tell_written(outcome, out);
 }

@@ -19,7 +19,7 @@ fn print_text(variables: u32, words: &[i32], out: &mut [u8]) -> DeskAnswer
     requires { ⌜ WellWords variables (now words) ⌝ }
     ensures { λ r. ⌜ PrintedBy verdict.Passed (textOf variables (now (words .entry))) (now (out .entry)) r (now (out .exit)) ⌝ }
 {
-    let answer = dimacs::write_text(variables, words, out);
+    let answer = text_writer::write_text(variables, words, out);
     let outcome = answer.outcome;
     match outcome {
         TextWritten::Written(bytes) => DeskAnswer {

@@ -1,7 +1,7 @@
 -- Laws of a clause text's header: it is read exactly where its line stands, and the writer writes such a line. Assumes
 -- nothing.
 use mathlib.Core.Path.{_≡_, refl, sym, ap, _∙_}
-use mathlib.Core.Bool.{true, false, and-eq-true-iff}
+use mathlib.Core.Bool.{true, and-eq-true-iff}
 use mathlib.Core.List.{List, _∷_, _++_, append-assoc}
 use Prim.Native.Nat.{ℕ, _+_, _^_, _≤_, _<_}
 use native.Mathlib.Omega.{arith}
@@ -11,7 +11,6 @@ use lib.Seq.{drop-drop}
 use Rattle.decimal.specs.Digits.{isDigit, value, digits}
 use Rattle.decimal.specs.Bytes.{hasAt}
 use Rattle.decimal.specs.Reading.{run, cut, fieldAt}
-use Rattle.decimal.specs.declared.Reading.{Reading}
 use Rattle.decimal.proofs.DigitsLaws.{digits-decimal}
 use Rattle.decimal.proofs.BytesLaws.{starts-with, with-start}
 use Rattle.decimal.proofs.FieldLaws.{field-read, read-field}
@@ -72,22 +71,6 @@ module _ (text : List ℕ) (at : ℕ) where
       let s = w .4 in
       let e = simp (length-append, length-drop) at (ap length (w .3 .line)) in
       (omega arith, omega arith, omega arith)
-
--- ---- as code comes to it, part by part
-
-module _ (text : List ℕ) (at : ℕ) where
-  pub no-head : hasAt text at head ≡ false → false ≡ isHeader text at
-  unfolding isHeader
-  no-head e = rw e
-
-  module _ (h : hasAt text at head ≡ true) where
-    pub no-variables : fieldAt text (variablesAt text at) space ≡ false → false ≡ isHeader text at
-    unfolding isHeader
-    no-variables e = rw (h, e)
-
-    pub by-clauses : fieldAt text (variablesAt text at) space ≡ true → fieldAt text (clausesAt text at) lineFeed ≡ isHeader text at
-    unfolding isHeader
-    by-clauses e = rw (h, e)
 
 -- ---- the text that is written
 

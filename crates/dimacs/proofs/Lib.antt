@@ -1,7 +1,5 @@
 -- The laws of this crate that others cite. Assumes nothing.
-pub mod CommentLaws
 pub mod TokenLaws
-pub mod JudgeLaws
 pub mod PassLaws
 pub mod BodyLaws
 pub mod HeaderLaws

@@ -11,7 +11,7 @@ use lib.Dec.{ltb, eqb}
 use lib.IntN.{natAbs}
 use lib.ListN.{length, getD, drop, length-drop, drop-of-length-le}
 use lib.Seq.{drop-cons, drop-drop, drop-append-seam}
-use borrow.Author.Tests.{ne-eqb}
+use borrow.Author.Tests.{eq-eqb, ne-eqb}
 use Rattle.lists.specs.Every.{Every}
 use Rattle.lists.specs.Signed.{isZero, beyond}
 use Rattle.lists.proofs.UptoLaws.{below-or-not}
@@ -245,3 +245,11 @@ module _ {text : List ℕ} {i : ℕ} {m : Bool} {from : ℕ} {r : Reading} (k : 
 
     pub formed-zero : isZero (wordOf (lead (drop i text))) ≡ eqb (r .value) 0
     formed-zero = rw (formed-says, says-zero, k .reading) (sym (cut-zero (value (run (drop from text)))))
+
+-- a token with a minus, and one without
+module _ (text : List ℕ) (i : ℕ) (inside : i < length text) (begins : isGap (getD text i 0) ≡ false) where
+  pub minus-token : getD text i 0 ≡ 45 → TokenAt text i true (i + 1) (readingAt text (i + 1))
+  minus-token e = record { inside = inside; begins = begins; signed = sym (eq-eqb (getD text i 0) 45 e); past-sign = refl; reading = refl }
+
+  pub plain-token : (getD text i 0 ≡ 45 → ⊥) → TokenAt text i false i (readingAt text i)
+  plain-token e = record { inside = inside; begins = begins; signed = sym (ne-eqb (getD text i 0) 45 e); past-sign = omega arith; reading = refl }

@@ -1,22 +1,21 @@
--- How `write_text` comes to its answer, and what its answer tells. Assumes nothing.
+-- What an answer of `write_text` tells. Assumes nothing.
 use mathlib.Core.Path.{_≡_, refl, sym, ap, _∙_}
 use mathlib.Core.Logic.{_↔_}
 use mathlib.Core.List.{List, [], _∷_}
-use Prim.Native.Nat.{ℕ, _≤_, _<_}
-use native.Mathlib.Omega.{arith}
+use Prim.Native.Nat.{ℕ, _≤_}
 use lib.IntN.{ℤ}
 use lib.ListN.{length, getD, take, drop}
 use Rattle.lists.specs.Buffer.{over}
 use Rattle.lists.proofs.BufferLaws.{over-parts}
-use Rattle.refusal.specs.Rules.{Rule, refusal, roomRule, chain}
+use Rattle.refusal.specs.Rules.{Rule, roomRule, chain}
 use Rattle.refusal.specs.Said.{Said, result}
 use Rattle.refusal.specs.Table.{roomRow, ExactlyWhen}
 use Rattle.refusal.specs.declared.Refusal.{Refusal}
-use Rattle.refusal.specs.declared.Verdict.the-variants.{Passed, Refused as Refusing}
+use Rattle.refusal.specs.declared.Verdict.the-variants.{Passed}
 use Rattle.refusal.proofs.RulesLaws.{passes, passed}
 use Rattle.refusal.proofs.TableLaws.{Faithful, faithful-append}
-use Rattle.refusal.proofs.RoomLaws.{room-faithful, too-short, long-enough, fits}
-use Rattle.refusal.proofs.AnsweredLaws.{by-refusal, by-result, first-refuse, goes-on, Told, told}
+use Rattle.refusal.proofs.RoomLaws.{room-faithful, long-enough, fits}
+use Rattle.refusal.proofs.AnsweredLaws.{Told, told}
 use Rattle.cnf.specs.Lent.{wordRules, wordTable, WellWords}
 use Rattle.cnf.proofs.LentLaws.{word-faithful, words-well, well-words}
 use Rattle.dimacs.specs.Text.{textOf}
@@ -26,7 +25,7 @@ use Rattle.dimacs.specs.declared.WriteAnswer.{WriteAnswer}
 
 module _ (v : ℕ) (ws : List ℤ) where
   -- number 7's rule
-  abbrev roomRules : ℕ → List Rule
+  abbrev pub roomRules : ℕ → List Rule
   roomRules room = roomRule (length (textOf v ws)) room ∷ []
 
   -- every rule passes exactly when the words are well and the text fits
@@ -37,28 +36,11 @@ module _ (v : ℕ) (ws : List ℤ) where
   )
 
   module _ (before : List ℕ) where
-    -- ---- how it comes to its answer: the words are refused; or they are well, and the buffer is too short or not
-
-    pub write-refuses : {r : Refusal} → chain (wordRules v ws) ≡ Refusing r → WritePromise v ws before (record { outcome = Refused r }) before
-    write-refuses q = first-refuse writtenSaid _ _ before (wordRules v ws) (roomRules (length before)) refl q
-
-    pub write-short : {n : ℕ} → chain (wordRules v ws) ≡ Passed → n ≡ length (textOf v ws) → length before < n → WritePromise v ws before (record { outcome = Refused (refusal 7 n) }) before
-    write-short q e h =
-        goes-on writtenSaid _ _ before (wordRules v ws) (roomRules (length before)) q
-        (by-refusal writtenSaid _ _ before refl (rw e (too-short (length (textOf v ws)) (length before) (omega arith))))
-
-    pub write-done : {n : ℕ} {after : List ℕ} → chain (wordRules v ws) ≡ Passed → length (textOf v ws) ≤ length before → n ≡ length (textOf v ws) → after ≡ over (textOf v ws) before → WritePromise v ws before (record { outcome = Written n }) after
-    write-done q h e b =
-        goes-on writtenSaid _ _ before (wordRules v ws) (roomRules (length before)) q
-        (by-result writtenSaid _ _ before (rw e) (long-enough (length (textOf v ws)) (length before) h) b)
-
     -- the words are well: only the room decides
     pub write-well : WellWords v ws → {answer : WriteAnswer} {after : List ℕ} → WritePromise v ws before answer after → WrittenBy (roomRules (length before)) v ws before answer after
     write-well w {answer} {after} p =
         let q : chain (writeRules v ws (length before)) ≡ chain (roomRules (length before)) = sym (passes (wordRules v ws) (roomRules (length before)) (sym (well-words v ws w)) refl refl) in
         record { says = p .says ∙ rw q; buffer = p .buffer ∙ rw q }
-
-    -- ---- what an answer tells
 
     module _ (answer : WriteAnswer) (after : List ℕ) (promise : WritePromise v ws before answer after) where
       tells : Told writtenSaid Refused (writeRules v ws (length before)) (length (textOf v ws) ∷ []) (over (textOf v ws) before) before (answer .outcome) after

@@ -2,9 +2,8 @@
 use mathlib.Core.Path.{_≡_}
 use mathlib.Core.Bool.{Bool, true, false, cond, not, _&&_}
 use mathlib.Core.List.{List, [], _∷_, _++_}
-use Prim.Native.Nat.{ℕ, _+_, _≤_}
+use Prim.Native.Nat.{ℕ, _+_}
 use lib.Dec.{eqb}
-use lib.ListN.{length}
 use Rattle.decimal.specs.Digits.{isDecimal}
 use Rattle.decimal.specs.Bytes.{hasAt}
 use Rattle.decimal.specs.Reading.{readingAt, fieldAt}
@@ -42,10 +41,3 @@ module _ (text : List ℕ) (at : ℕ) where
   -- where the tokens begin
   abbrev pub afterHeader : ℕ
   afterHeader = clausesAt .end + 1
-
--- what a reading of the line says, where it has the form: V, the clause count, and where the tokens begin
-pub record HeaderRead (text : List ℕ) (at v clauses next : ℕ) : Type 0 where
-  pub variables : v ≡ variablesAt text at .value
-  pub clause-count : clauses ≡ clausesAt text at .value
-  pub after : next ≡ afterHeader text at
-  pub inside : next ≤ length text

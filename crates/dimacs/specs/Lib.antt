@@ -3,8 +3,6 @@ pub mod Text
 pub mod Tokens
 pub mod Header
 pub mod Rules
-pub mod Survey
-pub mod Passes
 pub mod Write
 pub mod Read
 pub mod RoundTrip

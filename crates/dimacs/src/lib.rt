@@ -1,11 +1,7 @@
-// Clause text: a word list written as DIMACS text, and such text read back. Assumes nothing.
-mod reader;
-mod writer;
-
+// Clause text: what it is, the answers of those who write and read it, and what the two promise (specs/), with laws (proofs/).
+// Definitions and theorems alone. Assumes nothing.
 use cnf::Tally;
-pub use reader::read_text;
 use refusal::Refusal;
-pub use writer::write_text;
 
 pub enum TextWritten {
     Written(usize),

@@ -139,7 +139,7 @@ pub fn read_open(text: &[u8], list: &mut [i32]) -> TextRead {
     say(b"read ");
     say_quoted(text, 0, text.len());
     say(b" ->");
-    let answer = dimacs::read_text(text, list);
+    let answer = text_reader::read_text(text, list);
     let outcome = answer.outcome;
     tell_read(outcome, list);
     outcome

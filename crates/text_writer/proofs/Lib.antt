@@ -1,0 +1,3 @@
+-- The laws of this crate that others cite. Assumes nothing.
+pub mod PutLaws
+pub mod AnswerLaws
