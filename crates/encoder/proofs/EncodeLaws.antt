@@ -1,6 +1,6 @@
 -- What an answer of `encode` tells: each number is given exactly when its row of the table is due and none before it is;
 -- and the words are written exactly when the diagram is sound and they fit. Assumes nothing.
-use mathlib.Core.Path.{_≡_, refl, sym, _∙_}
+use mathlib.Core.Path.{_≡_, refl, sym}
 use mathlib.Core.Logic.{_↔_}
 use mathlib.Core.List.{List, [], _∷_}
 use Prim.Native.Nat.{ℕ, _≤_}
@@ -13,7 +13,7 @@ use Rattle.refusal.specs.declared.Verdict.the-variants.{Passed}
 use Rattle.refusal.proofs.RulesLaws.{passes, passed}
 use Rattle.refusal.proofs.TableLaws.{Faithful, faithful-append}
 use Rattle.refusal.proofs.RoomLaws.{room-faithful, long-enough, fits}
-use Rattle.cnf.specs.Encoded.{tally-same, tallyOf}
+use Rattle.cnf.specs.Encoded.{tallyOf}
 use Rattle.cnf.specs.declared.Tally.{Tally}
 use Rattle.cnf.specs.declared.Encoded.the-variants.{Written, Refused}
 use Rattle.cnf.specs.declared.EncodeAnswer.{EncodeAnswer}
@@ -21,19 +21,9 @@ use Rattle.cnf.proofs.EncodedLaws.{encoded-exactly-when, encoded-keeps, written
 use Rattle.diagram.specs.Lent.{Lent}
 use Rattle.diagram.specs.Sound.{Sound, checkTable}
 use Rattle.diagram.specs.Rules.{checkRules}
-use Rattle.diagram.specs.Promise.{countsOf}
-use Rattle.diagram.specs.declared.Diagram.{Diagram}
 use Rattle.diagram.proofs.SoundLaws.{check-faithful, passed-sound, sound-passed}
-use Rattle.clauses.specs.Clauses.{Edition, edition1, clauses, lastVariable}
-use Rattle.encoder.specs.Emit.{Tallied}
+use Rattle.clauses.specs.Clauses.{Edition, clauses, lastVariable}
 use Rattle.encoder.specs.Promise.{needed, encodeTable, encodeRules, EncodePromise}
-use Rattle.clauses.proofs.Edition1Sizes.{allPairs, last-variable, clauses-by-pairs, words-by-pairs}
-
--- the counts by sums are the list's own
-pub own-tally : (d : Lent) {c : Diagram} {p : ℕ} (t : Tally) → Tallied c p t → c ≡ countsOf d → p ≡ allPairs d → t ≡ tallyOf (clauses edition1 d) (lastVariable edition1 d)
-own-tally d t r e q =
-    let s : Tallied (countsOf d) (allPairs d) t = rw (e, q) at r in
-    tally-same _ _ _ _ _ _ (s .words ∙ sym (words-by-pairs d)) (s .clauses ∙ sym (clauses-by-pairs d)) (s .variables ∙ sym (last-variable d))
 
 module _ (e : Edition) (d : Lent) where
   pub encode-faithful : (room : ℕ) → Faithful (encodeRules e d room) (encodeTable e d room)

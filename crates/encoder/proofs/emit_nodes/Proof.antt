@@ -7,6 +7,8 @@ use native.Mathlib.Nat.{le-refl}
 use native.Mathlib.Omega.{arith}
 use lib.IntN.{ℤ}
 use lib.ListN.{length, take, drop}
+use borrow.Author.Needs.{needs}
+use borrow.Rule.Slice.PartMut.{putMid}
 use Rattle.lists.proofs.BufferLaws.{kept, begin, turn, room, finish, wrote-as, part-room, front-in-part}
 use Rattle.lists.specs.Buffer.{Wrote}
 use Rattle.lists.specs.Upto.{upTo}
@@ -17,9 +19,10 @@ use Rattle.diagram.specs.Lent.{Lent, lent, options, nodes, layer, asked, width,
 use Rattle.diagram.specs.Numbers.{firstValue, values}
 use Rattle.diagram.specs.Sound.{Within, Sound}
 use Rattle.diagram.specs.declared.Diagram.{Diagram}
-use Rattle.encoder.proofs.EmitLaws.{each-room, each-wrote, part-small, part-node}
 use Rattle.clauses.specs.Clauses.{nodeClauses}
-use Rattle.encoder.specs.Emit.{lentNode, Small}
+use Rattle.clause_writer.specs.Emit.{lentNode, lentNumbers}
+use Rattle.clause_writer.proofs.ClauseLaws.{each-room, each-wrote, emitted}
+use Rattle.encoder.proofs.EmitLaws.{part-few, part-node}
 use Rattle.encoder.proofs.emit_nodes.Statement.{statement}
 use Rattle.encoder.proofs.emit_nodes.Tie as tie
 
@@ -75,14 +78,21 @@ module _ (c : tie.After-values-before Inv-loop μ-loop) where
   node : lentWords ≡ words (nodeClauses (d (test c)) (test c .before .loop .v))
   node = let t = test c in ap words (part-node (d t) (sound t) eD en (t .before .loop .v) (t .loop-test .taken) eb (t .before .loop .inv .3))
 
-  small : let t = test c in let a = start t .args in let l = t .before .loop in Small (a .counts .values) (a .counts .nodes) (c .values-before .result) (l .edge) (take (l .edge + width (d t) (l .v) - l .edge) (drop (l .edge) (a .targets .now)))
-  small = let t = test c in part-small (d t) (sound t) eD en (t .before .loop .v) (t .loop-test .taken) eb (t .before .loop .inv .3)
+  few-numbers : let t = test c in let a = start t .args in let l = t .before .loop in lentNumbers (a .counts .values) (a .counts .nodes) (c .values-before .result) (l .edge) (length (take (l .edge + width (d t) (l .v) - l .edge) (drop (l .edge) (a .targets .now)))) (l .v) ≤ 1000000
+  few-numbers = let t = test c in part-few (d t) (sound t) eD en (t .before .loop .v) (t .loop-test .taken) eb (t .before .loop .inv .3)
 
   fits : test c .before .loop .p + length lentWords ≤ length (test c .before .loop .out)
   fits =
       let t = test c in
       let s = start t in
       omega (arith, ap length node, room (λ v. words (nodeClauses (d t) v)) (t .before .loop .inv .4) (each-room (nodes (d t)) (nodeClauses (d t)) (s .args .at) _ (s .pre .0)) (t .loop-test .taken))
+
+-- it was written into the part
+front : (c : tie.After-emit-node Inv-loop μ-loop) → let b = c .before .before .before .before in let l = test b .before .loop in Wrote (l .out) (l .p) (lentWords b) (putMid (l .p) (length (l .out) - l .p) (l .out) (c .emit-node .last .0)) (l .p + c .emit-node .result)
+front c =
+    let b = c .before .before .before .before in
+    let l = test b .before .loop in
+    front-in-part (l .out) (l .p) (fits b) (emitted _ _ _ (few-numbers b) (part-room (l .out) (l .p) _ (fits b)) (c .emit-node .ensures))
 
 pub emit-nodes-spec : {M : Type 1} → statement M
 emit-nodes-spec =
@@ -117,8 +127,8 @@ emit-nodes-spec =
     (λ c. omega (arith, ends (test (c .before .before))))
     (λ c. omega (arith, ends (test (c .before .before))))
     -- the node
-    (λ c κs. let b = c .before .before .before in let t = test b in (part-room (t .before .loop .out) (t .before .loop .p) _ (fits b), (small b, omega (arith, sound t .shaped .nodes-fit, t .loop-test .taken))))
-    (λ c. let b = c .before .before .before .before .before in omega (arith, fits b, kept (test b .before .loop .inv .4), c .before .emit-node .ensures .next))
+    (λ c κs. search needs)
+    (λ c. let b = c .before .before .before .before .before in omega (arith, fits b, kept (test b .before .loop .inv .4), front (c .before) .next))
     (λ c. let t = test (c .before .before .before .before .before) in omega (arith, sound t .shaped .nodes-fit, t .loop-test .taken))
     (λ c. let t = test (c .before .before .before .before .before) in omega (arith, t .loop-test .taken))
     (λ c.
@@ -129,7 +139,7 @@ emit-nodes-spec =
       (λ h. let k : l .v ≤ l .v + 1 = omega arith in omega (arith, layers-rise (d t) (sound t .shaped) (l .v) (l .v + 1) k h)),
       b .values-before .ensures,
       omega (arith, l .inv .3, edge-sums (d t) .more (l .v)),
-      turn (λ v. words (nodeClauses (d t) v)) (l .inv .4) (wrote-as (front-in-part (l .out) (l .p) (fits b) (c .before .emit-node .ensures)) (node b)),
+      turn (λ v. words (nodeClauses (d t) v)) (l .inv .4) (wrote-as (front (c .before)) (node b)),
     ))
     (λ c. kept (c .before .loop .inv .4))
     (λ c. let l = c .before .loop in each-wrote _ _ (finish _ (l .inv .4) (l .inv .0) (c .loop-test .left))))

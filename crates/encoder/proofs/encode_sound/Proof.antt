@@ -1,19 +1,15 @@
 -- `encoder::encode_sound` meets its contract: number 7, or the words. Assumes nothing.
-use mathlib.Core.Path.{_≡_, sym, ap, subst}
-use Prim.Native.Nat.{_≤_}
-use native.Mathlib.Nat.{le-refl}
+use mathlib.Core.Path.{_≡_, ap, _∙_}
 use native.Mathlib.Omega.{arith}
 use borrow.Author.Needs.{needs}
 use Rattle.cnf.specs.Encoded.{tallyOf}
 use Rattle.cnf.specs.declared.Tally.{Tally}
 use Rattle.cnf.proofs.EncodedLaws.{encode-short, encode-writes}
-use Rattle.diagram.proofs.NumberLaws.{values-most}
-use Rattle.diagram.proofs.ShapedLaws.{edges-most}
-use Rattle.diagram.specs.Lent.{Lent, lent, options, nodes}
+use Rattle.diagram.specs.Lent.{Lent, lent}
 use Rattle.diagram.specs.declared.Diagram.{Diagram}
-use Rattle.clauses.proofs.Edition1Sizes.{all-pairs-most}
-use Rattle.encoder.proofs.EncodeLaws.{own-tally}
 use Rattle.clauses.specs.Clauses.{edition1, clauses, lastVariable}
+use Rattle.sizes.specs.Tallied.{tallied}
+use Rattle.sizes.proofs.TallyLaws.{own-tally}
 use Rattle.encoder.specs.Promise.{needed}
 use Rattle.encoder.proofs.encode_sound.Statement.{statement}
 use Rattle.encoder.proofs.encode_sound.Tie as tie
@@ -22,10 +18,10 @@ abbrev d : tie.Start → Lent
 d s = lent (s .args .domains .now) (s .args .layers .now) (s .args .targets .now)
 
 abbrev start : tie.After-tally-of → tie.Start
-start c = c .before .before .before .before .before
+start c = c .before .before .before .before
 
 own : (c : tie.After-tally-of) → c .tally-of .result ≡ tallyOf (clauses edition1 (d (start c))) (lastVariable edition1 (d (start c)))
-own c = own-tally (d (start c)) (c .tally-of .result) (c .tally-of .ensures) (start c .pre .1) (c .before .pair-count .ensures)
+own c = let s = start c in c .tally-of .ensures ∙ ap (λ (k : Diagram). tallied k (s .args .domains .now)) (s .pre .1) ∙ own-tally (d s) (s .pre .0 .shaped)
 
 length-is : (c : tie.After-tally-of) → c .tally-of .result .words ≡ needed edition1 (d (start c))
 length-is c = ap (λ (t : Tally). t .words) (own c)
@@ -34,12 +30,7 @@ pub encode-sound-spec : {M : Type 1} → statement M
 encode-sound-spec =
     tie.close
     (tie.spec
-    (λ c κs. let s = c .before .before .before .pre .0 .shaped in (s .options-fit .1, s .domains-fit))
-    (λ c κs.
-    let s = c .before .before .before .before in
-    let h = s .pre .0 .shaped in
-    subst (λ (k : Diagram). (k .options ≤ 64) × (k .nodes ≤ 4096) × (k .values ≤ 2048) × (k .edges ≤ 131072) × (c .pair-count .result ≤ 31744)) (sym (s .pre .1))
-    (h .options-fit .1, h .nodes-fit .1, values-most (d s) h (options (d s)) (le-refl _), edges-most (d s) h (nodes (d s)) (le-refl _), omega (arith, c .pair-count .ensures, all-pairs-most (d s) h)))
+    (λ c κs. search needs)
     (λ c. let t = c .before .before in encode-short (clauses edition1 (d (start t))) (lastVariable edition1 (d (start t))) _ (length-is t) (c .if1 .taken))
     (λ c κs. let t = c .before .before .before in (omega (arith, length-is t, c .before .if1 .left), (start t .pre .0, start t .pre .1)))
     (λ c. search needs)
