@@ -62,7 +62,7 @@ pub printed-one-outcome : (v : Verdict) (text before : List ℕ) (a b : DeskAnsw
 printed-one-outcome v text before a b after after′ p q = let w = answered-once desk-said-once p q in (ap (λ (o : DeskRun). record { outcome = o }) (w .0), w .1)
 
 pub desk-one-outcome : (input before : List ℕ) (a b : DeskAnswer) (after after′ : List ℕ) → DeskPromise input before a after → DeskPromise input before b after′ → (a ≡ b) × (after ≡ after′)
-desk-one-outcome input = printed-one-outcome _ _
+desk-one-outcome input = printed-one-outcome (chain (deskRules input)) (diagramText (fileDiagram input))
 
 -- ---- the same in words
 
