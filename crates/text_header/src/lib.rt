@@ -5,8 +5,8 @@ ghost use mathlib.Core.Bool.{false};
 ghost use Rattle.dimacs.specs.Header.{comments};
 ghost use Rattle.text_header.specs.Header.{noHeader, headerOf};
 
-// Where the comment lines end, and whether the line there has the header's form; where it has, also what it says (cut at
-// 10000000000) and where the tokens begin, else 0.
+// Where the comment lines end, and whether the line there has the header's form; where it has, what it says (cut at
+// 10000000000) and where the tokens begin, and else 0.
 pub struct Header {
     pub start: usize,
     pub formed: bool,
@@ -15,6 +15,7 @@ pub struct Header {
     pub next: usize,
 }
 
+// Where the comment lines end.
 fn skip_comments(text: &[u8]) -> usize
     ensures { λ r. ⌜ r ≡ comments false (now (text .entry)) ⌝ }
 {
@@ -48,6 +49,7 @@ fn no_header(start: usize) -> Header
     }
 }
 
+// The comment lines, and then the header's line.
 pub fn read_header(text: &[u8]) -> Header
     ensures { λ r. ⌜ r ≡ headerOf (now (text .entry)) ⌝ }
 {

@@ -15,8 +15,8 @@ ghost use Rattle.lists.specs.Buffer.{over};
 ghost use Rattle.refusal.specs.Rules.{refusal, chain};
 ghost use Rattle.dimacs.specs.Tokens.{isGap, lead, wordOf, Good, wordsOf};
 ghost use Rattle.dimacs.specs.Rules.{tokenRules, endRules, tokensFrom};
-ghost use Rattle.text_tokens.specs.Passes.{PassedOver};
 ghost use Rattle.dimacs.specs.Read.{ReadBy, ReadPromise};
+ghost use Rattle.text_tokens.specs.Passes.{PassedOver};
 
 // ---- the second pass: the words of tokens that are known to be good
 

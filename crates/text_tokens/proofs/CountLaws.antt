@@ -13,9 +13,9 @@ use Rattle.cnf.specs.Words.{zeros, closed}
 use Rattle.cnf.proofs.WordsLaws.{zeros-append, closed-append}
 use Rattle.dimacs.specs.Tokens.{isGap, lead, Token, wordOf, Good, wordsOf}
 use Rattle.dimacs.specs.Rules.{tokenRules, tokensFrom}
+use Rattle.dimacs.proofs.PassLaws.{words-of-append, Behind, over-none, over-gap, over-more, over-all}
 use Rattle.text_tokens.specs.Passes.{PassedOver}
 use Rattle.text_tokens.specs.declared.Pass.the-variants.{Counted}
-use Rattle.dimacs.proofs.PassLaws.{words-of-append, Behind, over-none, over-gap, over-more, over-all}
 
 -- n words and z clauses, of which the last is closed or not
 pub record Counting (v : ℕ) (text : List ℕ) (from i n z : ℕ) (c : Bool) : Type 0 where

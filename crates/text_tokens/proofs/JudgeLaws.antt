@@ -15,11 +15,11 @@ use Rattle.decimal.specs.Reading.{readingAt, positiveAt}
 use Rattle.decimal.specs.declared.Reading.{Reading}
 use Rattle.decimal.proofs.PositiveLaws.{positive-good, positive-is, positive-plain}
 use Rattle.dimacs.specs.Tokens.{isGap, lead, ended, formed, wordOf, Good}
+use Rattle.dimacs.proofs.BodyLaws.{nought, literal-formed, literal-says}
+use Rattle.dimacs.proofs.TokenLaws.{nought-token, TokenAt, minus-token, plain-token, formed-as, formed-ends, formed-beyond, formed-zero}
 use Rattle.text_tokens.specs.Judged.{TokenJudged, DigitsJudged}
 use Rattle.text_tokens.specs.declared.Judged.{Judged}
 use Rattle.text_tokens.specs.declared.Judged.the-variants.{Misformed, Beyond, Zero, Literal}
-use Rattle.dimacs.proofs.BodyLaws.{nought, literal-formed, literal-says}
-use Rattle.dimacs.proofs.TokenLaws.{nought-token, TokenAt, minus-token, plain-token, formed-as, formed-ends, formed-beyond, formed-zero}
 
 -- ---- by a number other than 0
 

@@ -7,7 +7,6 @@ use lib.Dec.{ltb}
 use lib.ListN.{length, drop}
 use Rattle.lists.specs.Signed.{isZero, beyond}
 use Rattle.decimal.specs.Reading.{positiveAt}
-use Rattle.refusal.specs.declared.Verdict.the-variants as verdict
 use Rattle.dimacs.specs.Tokens.{lead, ended, formed, wordOf, Good}
 use Rattle.text_tokens.specs.declared.Judged.{Judged}
 use Rattle.text_tokens.specs.declared.Judged.the-variants.{Misformed, Beyond, Zero, Literal}

@@ -15,8 +15,8 @@ use Rattle.decimal.proofs.BytesLaws.{put-wrote}
 use Rattle.decimal.proofs.DigitsLaws.{digits-small, length-pos}
 use Rattle.cnf.specs.Words.{zeros}
 use Rattle.cnf.proofs.WordsLaws.{zero-only}
-use Rattle.dimacs.proofs.WriterLaws.{literal-size, word-length, header-length, LastByte, last-byte}
 use Rattle.dimacs.specs.Text.{head, space, lineFeed, minus, literalText, wordText, body, headerLine, textOf}
+use Rattle.dimacs.proofs.WriterLaws.{literal-size, word-length, header-length, LastByte, last-byte}
 
 -- ---- a word's text
 

@@ -4,8 +4,8 @@ use mathlib.Core.Bool.{true, false}
 use Prim.Native.Nat.{_≤_, _<_, _^_}
 use native.Mathlib.Omega.{arith}
 use borrow.Author.Needs.{needs}
-use Rattle.decimal.specs.declared.Reading.{Reading}
 use Rattle.lists.proofs.SignedLaws.{as-word, fits-less, minus-back}
+use Rattle.decimal.specs.declared.Reading.{Reading}
 use Rattle.text_reader.proofs.WordLaws.{WordRead, minus-read, plain-read}
 use Rattle.text_reader.proofs.word_at.Statement.{statement}
 use Rattle.text_reader.proofs.word_at.Tie as tie

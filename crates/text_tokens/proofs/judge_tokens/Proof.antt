@@ -7,11 +7,11 @@ use native.Mathlib.Omega.{arith}
 use lib.ListN.{length, getD, drop}
 use borrow.Author.Needs.{needs}
 use Rattle.dimacs.specs.Tokens.{isGap, lead}
+use Rattle.dimacs.proofs.TokenLaws.{lead-inside}
+use Rattle.dimacs.proofs.PassLaws.{over-misformed, over-beyond}
 use Rattle.text_tokens.specs.Judged.{TokenJudged}
 use Rattle.text_tokens.specs.declared.Judged.{Judged}
 use Rattle.text_tokens.specs.declared.Judged.the-variants.{Misformed, Beyond, Zero, Literal}
-use Rattle.dimacs.proofs.TokenLaws.{lead-inside}
-use Rattle.dimacs.proofs.PassLaws.{over-misformed, over-beyond}
 use Rattle.text_tokens.proofs.CountLaws.{Counting, counting-none, counting-gap, counting-zero, counting-literal, counting-all}
 use Rattle.text_tokens.proofs.judge_tokens.Statement.{statement}
 use Rattle.text_tokens.proofs.judge_tokens.Tie as tie
