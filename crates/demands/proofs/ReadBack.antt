@@ -21,7 +21,8 @@ use Rattle.clauses.specs.Editions.{ExactlyOne, OwnVariables}
 use Rattle.clauses.proofs.VariableLaws.{value-within}
 use Rattle.clauses.proofs.Edition1.{edition1-one, edition1-own}
 use Rattle.encoder.proofs.EncodeLaws.{encode-written}
-use Rattle.model.specs.Model.{literal, variable, Named, NamedTrue, BuildOf, ReadsAs}
+use Rattle.literals.specs.Literals.{literal, variable}
+use Rattle.model.specs.Model.{Named, NamedTrue, BuildOf, ReadsAs}
 use Rattle.model.specs.Promise.{ModelPromise}
 use Rattle.model.specs.declared.ModelRead.the-variants.{Built}
 use Rattle.model.specs.declared.ModelAnswer.{ModelAnswer}

@@ -11,9 +11,10 @@ use Rattle.diagram.specs.Numbers.{firstValue}
 use Rattle.diagram.specs.Rules.{badLayer, permits, owner, badTarget, optionRules, nodeRules, targetRules, checkRules}
 use Rattle.clauses.specs.Clauses.{firstHelper, clauses}
 use Rattle.encoder.specs.Promise.{encodeRules}
-use Rattle.model.specs.Rules.{mark, again, unclear, valueOf, valueRules, literalRules, soundRules, modelRules}
+use Rattle.naming.specs.Naming.{mark, again, namingRules}
+use Rattle.model.specs.Rules.{unclear, valueOf, valueRules, literalRules, soundRules, modelRules}
 use Rattle.demands.specs.Samples.{Holds, samples}
 
 pub samples-hold : Each Holds samples
-unfolding sumTo upTo countTo lastTo first isZero isNegative chain words firstEdge step walk firstValue badLayer permits owner badTarget optionRules nodeRules targetRules checkRules firstHelper clauses encodeRules mark again unclear valueOf valueRules literalRules soundRules modelRules samples
+unfolding sumTo upTo countTo lastTo first isZero isNegative chain words firstEdge step walk firstValue badLayer permits owner badTarget optionRules nodeRules targetRules checkRules firstHelper clauses encodeRules mark again namingRules unclear valueOf valueRules literalRules soundRules modelRules samples
 samples-hold = ((refl, refl, refl, refl), (refl, ((refl, refl, refl, refl), ((refl, refl, refl, refl), (refl, (refl, (refl, (refl, ((refl, refl), ((refl, refl), (refl, (refl, (refl, (refl, tt))))))))))))))

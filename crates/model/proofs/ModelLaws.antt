@@ -28,6 +28,7 @@ use Rattle.diagram.proofs.AllowsLaws.{sound-ranked, allows-exactly}
 use Rattle.diagram.proofs.SoundLaws.{check-faithful, passed-sound, sound-passed}
 use Rattle.judge.specs.Promise.{allowsTest}
 use Rattle.clauses.specs.Clauses.{Edition, lastVariable}
+use Rattle.naming.specs.Naming.{namingRules}
 use Rattle.model.specs.Model.{NamedFirst, OneValue, BuildOf, AllowedBuild, ReadsAs, literalTable, modelTable}
 use Rattle.model.specs.Rules.{buildOf, valueRules, literalRules, soundRules, modelRules}
 use Rattle.model.specs.Promise.{modelSaid, ModelPromise, model-said-once}
@@ -60,7 +61,7 @@ module _ (d : Lent) (m : List ℤ) where
     literals = literalRules d m (lastVariable e d)
 
     literals-faithful : Sound d → Faithful literals (literalTable d m e)
-    unfolding literalRules valueRules
+    unfolding literalRules valueRules namingRules
     literals-faithful s = (
       refl,
       tests-10 (lastVariable e d) m .at,
@@ -81,7 +82,7 @@ module _ (d : Lent) (m : List ℤ) where
         (a .build, record { well-named = v .0; is-said = a .is-said; allowed = a .allowed })
 
     reads-passed : Sound d → (build : List ℕ) → ReadsAs d m e build → chain literals ≡ Passed
-    unfolding literalRules valueRules chain
+    unfolding literalRules valueRules namingRules chain
     reads-passed s build r =
         let once = r .well-named .named-first in
         let one = each-one build (r .is-said) in

@@ -1,20 +1,19 @@
 -- What the marks and the counts of a model's literals say of its variables and of the options: the tests of the numbers
 -- 10 to 12 are for what their rows ask. Assumes nothing.
 use mathlib.Core.Path.{_≡_, refl, sym, _∙_, ap, subst}
-use mathlib.Core.Bool.{Bool, true, false, not, cond, _&&_, true≢false}
+use mathlib.Core.Bool.{Bool, true, false, not, _&&_, true≢false}
 use mathlib.Core.List.{List, [], List·Memᴰ}
-use mathlib.Core.Logic.{_⊎_, inl, inr, _↔_}
+use mathlib.Core.Logic.{_↔_}
 use Prim.Native.Nat.{ℕ, zero, suc, _≤_, _<_}
-use native.Mathlib.Nat.{not-suc-le-zero}
 use native.Mathlib.Omega.{arith}
 use lib.Dec.{leb, eqb}
 use lib.IntN.{ℤ, pos, negsuc, natAbs}
 use lib.ListN.{length}
 use lib.Seq.{ext-getD}
-use borrow.Author.Tests.{le-ltb, le-leb, leb-true, eqb-true, eqb-false, eq-eqb, ne-eqb, not-true, not-false}
+use borrow.Author.Tests.{le-ltb, le-leb, leb-true, eqb-true, eqb-false, eq-eqb, not-true, not-false}
 use Rattle.lists.specs.First.{first, FirstFailing}
 use Rattle.lists.specs.Signed.{isZero, isNegative}
-use Rattle.lists.proofs.UptoLaws.{last-or-below, list-singles, list-at}
+use Rattle.lists.proofs.UptoLaws.{list-singles, list-at}
 use Rattle.lists.proofs.EveryLaws.{entry-in, in-entry}
 use Rattle.lists.proofs.FirstLaws.{Tests, tests-each, count-one, one-count}
 use Rattle.refusal.specs.Rules.{chain}
@@ -27,8 +26,11 @@ use Rattle.diagram.proofs.ShapedLaws.{inside, not-inside}
 use Rattle.diagram.proofs.NumberLaws.{value-sums}
 use Rattle.judge.specs.Build.{Fits}
 use Rattle.clauses.specs.Variables.{valueVariable}
-use Rattle.model.specs.Model.{literal, variable, NamedTrue, InRange, NamedFirst, ValueOf, OneValue, BuildOf, WellNamed}
-use Rattle.model.specs.Rules.{badLiteral, badAt, markOf, mark, again, hasValue, unclear, valueOf, namesTrue, buildOf, valueRules}
+use Rattle.literals.specs.Literals.{literal, variable, badLiteral, badAt}
+use Rattle.naming.specs.Naming.{markOf, mark, again, namingRules}
+use Rattle.naming.proofs.NameLaws.{unmarked-exactly, marked-named, mark-stays}
+use Rattle.model.specs.Model.{NamedTrue, InRange, NamedFirst, ValueOf, OneValue, BuildOf, WellNamed}
+use Rattle.model.specs.Rules.{hasValue, unclear, valueOf, namesTrue, buildOf, valueRules}
 
 -- ---- number 10
 
@@ -42,59 +44,6 @@ pub tests-10 : (last : ℕ) (m : List ℤ) → Tests (first (badAt last m) (leng
 tests-10 last m =
     tests-each (badAt last m) (InRange last m) (length m)
     (λ k _ e. inside 1 last (variable m k) (sym (bad-outside last (literal m k)) ∙ e)) (λ k _ e. not-inside 1 last (variable m k) (sym (bad-outside last (literal m k)) ∙ e))
-
--- ---- the marks
-
--- a literal marks its variable, and with 1 only where it is the variable's own
-marks : (l : ℤ) → markOf l ≡ 0 → ⊥
-unfolding isNegative
-marks (pos n) e = omega arith
-marks (negsuc n) e = omega arith
-
-marks-true : (l : ℤ) → markOf l ≡ 1 → l ≡ pos (natAbs l)
-unfolding isNegative
-marks-true (pos n) e = refl
-marks-true (negsuc n) e = absurd (omega arith)
-
-module _ (m : List ℤ) where
-  unmarked : (k x : ℕ) → mark m k x ≡ 0 → (j : ℕ) → j < k → variable m j ≡ x → ⊥
-  unfolding mark
-  unmarked zero x e j h q = not-suc-le-zero h
-  unmarked (suc k) x e j h q = go (eqb (variable m k) x) refl e (last-or-below j k h) (λ r l. unmarked k x r j l q)
-    where
-      go : (b : Bool) → eqb (variable m k) x ≡ b → cond b (markOf (literal m k)) (mark m k x) ≡ 0 → (j ≡ k) ⊎ (j < k) → (mark m k x ≡ 0 → j < k → ⊥) → ⊥
-      go true t e c r = marks (literal m k) e
-      go false t e (inl i) r = eqb-false (variable m k) x t (ap (variable m) (sym i) ∙ q)
-      go false t e (inr l) r = r e l
-
-  not-named : (k x : ℕ) → ((j : ℕ) → j < k → variable m j ≡ x → ⊥) → mark m k x ≡ 0
-  unfolding mark
-  not-named zero x g = refl
-  not-named (suc k) x g = rw (ne-eqb (variable m k) x (g k (omega arith))) (not-named k x (λ j h. g j (omega arith)))
-
-  -- the first k literals leave a variable unmarked exactly when none of them names it
-  pub unmarked-exactly : (k x : ℕ) → (mark m k x ≡ 0) ↔ ((j : ℕ) → j < k → variable m j ≡ x → ⊥)
-  unmarked-exactly k x = (unmarked k x, not-named k x)
-
-  -- a variable marked true stands among them
-  marked-named : (k x : ℕ) → mark m k x ≡ 1 → (j : ℕ) × (j < k) × (literal m j ≡ pos x)
-  unfolding mark
-  marked-named zero x e = absurd (omega arith)
-  marked-named (suc k) x e = go (eqb (variable m k) x) refl e (marked-named k x)
-    where
-      go : (b : Bool) → eqb (variable m k) x ≡ b → cond b (markOf (literal m k)) (mark m k x) ≡ 1 → (mark m k x ≡ 1 → (j : ℕ) × (j < k) × (literal m j ≡ pos x)) → (j : ℕ) × (j < suc k) × (literal m j ≡ pos x)
-      go true t e r = (k, omega arith, marks-true (literal m k) e ∙ ap pos (eqb-true (variable m k) x t))
-      go false t e r = let w = r e in let h : w .0 < k = w .1 in (w .0, omega arith, w .2)
-
-  -- a literal's mark stays, where none after it names its variable x
-  mark-stays : (k j x : ℕ) → j < k → variable m j ≡ x → ((i : ℕ) → j < i → i < k → variable m i ≡ x → ⊥) → mark m k x ≡ markOf (literal m j)
-  unfolding mark
-  mark-stays zero j x h q g = absurd (not-suc-le-zero h)
-  mark-stays (suc k) j x h q g = go (last-or-below j k h) (λ l. mark-stays k j x l q (λ i a b. g i a (omega arith)))
-    where
-      go : (j ≡ k) ⊎ (j < k) → (j < k → mark m k x ≡ markOf (literal m j)) → mark m (suc k) x ≡ markOf (literal m j)
-      go (inl e) r = rw (eq-eqb (variable m k) x (ap (variable m) (sym e) ∙ q)) (ap (λ (i : ℕ). markOf (literal m i)) (sym e))
-      go (inr l) r = rw (ne-eqb (variable m k) x (g k l (omega arith))) (r l)
 
 module _ (d : Lent) (m : List ℤ) where
   -- ---- number 11
@@ -165,7 +114,7 @@ module _ (d : Lent) (m : List ℤ) where
 
   -- where numbers 10 to 12 have passed
   pub values-passed : (last : ℕ) → chain (valueRules d m last) ≡ Passed → WellNamed d m last × ((i : ℕ) → i < options d → OneValue d m i)
-  unfolding valueRules
+  unfolding valueRules namingRules
   values-passed last q =
       let q₁₀ = not-due 10 _ _ q in
       let q₁₁ = not-due 11 _ _ (q₁₀ .1) in

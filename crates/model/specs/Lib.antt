@@ -1,5 +1,4 @@
 -- What this crate defines. Assumes nothing.
 pub mod Model
 pub mod Rules
-pub mod Marks
 pub mod Promise

@@ -3,8 +3,8 @@
 use mathlib.Core.Path.{_≡_}
 use mathlib.Core.List.{List, [], _∷_, _++_, List·Memᴰ}
 use Prim.Native.Nat.{ℕ, _≤_, _<_}
-use lib.IntN.{ℤ, pos, natAbs}
-use lib.ListN.{length, getD}
+use lib.IntN.{ℤ}
+use lib.ListN.{length}
 use Rattle.lists.specs.First.{FirstFailing}
 use Rattle.refusal.specs.Table.{Row, row, roomRow}
 use Rattle.cnf.specs.Clause.{plain}
@@ -13,13 +13,7 @@ use Rattle.diagram.specs.Numbers.{values}
 use Rattle.diagram.specs.Sound.{Within, checkTable}
 use Rattle.clauses.specs.Variables.{valueVariable}
 use Rattle.clauses.specs.Clauses.{Edition, lastVariable}
-
--- the literal at index k, and the variable that it names
-abbrev pub literal : List ℤ → ℕ → ℤ
-literal m k = getD m k (pos 0)
-
-abbrev pub variable : List ℤ → ℕ → ℕ
-variable m k = natAbs (literal m k)
+use Rattle.literals.specs.Literals.{variable}
 
 -- some literal of the model names the variable
 abbrev pub Named : List ℤ → ℕ → Type 0

@@ -17,7 +17,7 @@ use Rattle.diagram.specs.Lent.{Lent, lent, domain}
 use Rattle.diagram.specs.Numbers.{firstValue}
 use Rattle.diagram.proofs.NumberLaws.{value-sums}
 use Rattle.model.specs.Rules.{hasValue, unclear, valueOf, valuesTo}
-use Rattle.model.specs.Marks.{markedTrue}
+use Rattle.naming.specs.Marks.{markedTrue}
 use Rattle.model.proofs.MarkLaws.{clear, not-clear}
 use Rattle.model.proofs.first_unclear.Statement.{statement}
 use Rattle.model.proofs.first_unclear.Tie as tie

@@ -11,7 +11,7 @@ use borrow.Author.Tests.{eq-eqb, ne-eqb}
 use Rattle.lists.specs.Upto.{countTo, lastTo}
 use Rattle.lists.proofs.UptoLaws.{last-start, last-pass, last-found}
 use Rattle.lists.proofs.FirstLaws.{count-start, count-pass, count-found, count-most, sole-one, sole-none}
-use Rattle.model.specs.Marks.{markedTrue}
+use Rattle.naming.specs.Marks.{markedTrue}
 use Rattle.model.proofs.one_value.Statement.{statement}
 use Rattle.model.proofs.one_value.Tie as tie
 

@@ -15,7 +15,7 @@ use Rattle.model.proofs.read_sound.Statement.{statement}
 use Rattle.model.proofs.read_sound.Tie as tie
 
 abbrev start-of : tie.After-variables → tie.Start
-start-of c = c .before .before .before .before .before .before .before
+start-of c = c .before .before .before .before .before .before
 
 abbrev d : tie.After-variables → Lent
 d c = let s = start-of c .args in lent (s .domains .now) (s .layers .now) (s .targets .now)
@@ -38,7 +38,6 @@ read-sound-spec =
     tie.close
     (tie.spec
     (λ c. read-short _ _ _ _ (c .if1 .taken))
-    (λ c. search needs)
     (λ c κs. search needs)
     (λ c. omega (arith, last-most c))
     (λ c κs. search needs)
@@ -48,9 +47,9 @@ read-sound-spec =
     let n = c .before .before in
     let v = n .before in
     let s = start-of v in
-    (s .pre .0, ((values-are v, omega (arith, last-most v)), (length-take-le _ _ (room n), v .before .before .if1 .left))))
+    (s .pre .0, ((values-are v, omega (arith, last-most v)), (length-take-le _ _ (room n), v .before .if1 .left))))
     (λ c. search needs)
     (λ c.
     let r = c .before .before .before in
     let v = r .before .before .before .before in
-    read-room _ _ _ _ (v .before .before .if1 .left) (last-is v) _ _ (r .read-into .ensures)))
+    read-room _ _ _ _ (v .before .if1 .left) (last-is v) _ _ (r .read-into .ensures)))

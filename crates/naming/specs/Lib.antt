@@ -1,0 +1,3 @@
+-- What this crate defines. Assumes nothing.
+pub mod Naming
+pub mod Marks
