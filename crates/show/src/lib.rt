@@ -5,6 +5,7 @@ use cnf::Tally;
 use dimacs::TextRead;
 use libc::STDOUT_FILENO;
 use refusal::Refusal;
+ghost use Rattle.io.specs.Counts.{Counts};
 
 pub fn say(bytes: &[u8]) {
     io::write_all(STDOUT_FILENO, bytes);
@@ -143,4 +144,22 @@ pub fn read_open(text: &[u8], list: &mut [i32]) -> TextRead {
     let outcome = answer.outcome;
     tell_read(outcome, list);
     outcome
+}
+
+// n, or how many bytes there are where they are fewer.
+pub fn at_most(n: usize, bytes: &[u8]) -> usize
+    ensures { λ r. ⌜ Counts r (now (bytes .entry)) ⌝ }
+{
+    if bytes.len() < n { bytes.len() } else { n }
+}
+
+// The last line of a program that compares: how many things differ.
+pub fn tell_last(differ: usize) {
+    say(b"differ over everything: ");
+    if differ == 0 {
+        say(b"none\n");
+        return;
+    }
+    say_number(differ as u64);
+    say(b"\n");
 }

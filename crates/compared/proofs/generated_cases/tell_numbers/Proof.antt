@@ -1,9 +1,9 @@
--- `samples::generated_cases::tell_numbers` is safe and ends: the measure is how many turns of the loop are left. Nothing has
+-- `compared::generated_cases::tell_numbers` is safe and ends: the measure is how many turns of the loop are left. Nothing has
 -- to hold from turn to turn. Assumes nothing.
 use Prim.Native.Nat.{_-_}
 use borrow.Author.Needs.{needs}
-use Rattle.samples.proofs.generated_cases.tell_numbers.Statement.{statement}
-use Rattle.samples.proofs.generated_cases.tell_numbers.Tie as tie
+use Rattle.compared.proofs.generated_cases.tell_numbers.Statement.{statement}
+use Rattle.compared.proofs.generated_cases.tell_numbers.Tie as tie
 
 abbrev Inv-loop : tie.InvT-loop
 Inv-loop counts number₀ number = Unit {0}
