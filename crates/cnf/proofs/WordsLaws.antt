@@ -110,15 +110,7 @@ clauses-words (c ∷ cs) g =
     of-clause c (words cs) (g c (List·Memᴰ·head refl))
     ∙ ap (λ (ds : List Clause). c ∷ ds) (clauses-words cs (λ d m. g d (List·Memᴰ·tail m)))
 
--- clause lists with the same words are the same
-pub words-same : (cs ds : List Clause) → NoZeros cs → NoZeros ds → words cs ≡ words ds → cs ≡ ds
-words-same cs ds g h e = sym (clauses-words cs g) ∙ ap clausesOf e ∙ clauses-words ds h
-
 -- ---- how many zeros
-
-pub zeros-none : zeros [] ≡ 0
-unfolding zeros
-zeros-none = refl
 
 pub zeros-append : (vs ws : List ℤ) → zeros (vs ++ ws) ≡ zeros vs + zeros ws
 unfolding zeros
@@ -270,6 +262,3 @@ literals-all P (w ∷ ws) g c i = go (isZero w) refl (literals-all P ws (λ v j 
 -- none is 0, and each is a word
 pub clauses-no-zero : (ws : List ℤ) → NoZeros (clausesOf ws)
 clauses-no-zero ws = literals-all (λ l. isZero l ≡ false) ws (λ w m e. e)
-
-pub literal-word : (ws : List ℤ) (c : Clause) → List·Memᴰ c (clausesOf ws) → (l : ℤ) → List·Memᴰ l c → List·Memᴰ l ws
-literal-word ws = literals-all (λ l. List·Memᴰ l ws) ws (λ w m e. m)

@@ -158,11 +158,6 @@ first-with (suc f) n p h = go (first-with f (n / 10)) (decLt n 10)
         let e = List·getD-append (digitsWith f (n / 10)) ((48 + n % 10) ∷ []) 0 0 (k .0) in
         rw (with-step f n (omega arith)) (omega (arith, length-append (digitsWith f (n / 10)) ((48 + n % 10) ∷ [])))
 
-pub plain-none : (ds : List ℕ) → length ds ≡ 0 → plain ds ≡ false
-unfolding plain
-plain-none [] h = refl
-plain-none (b ∷ bs) h = absurd (omega arith)
-
 pub plain-one : (ds : List ℕ) → length ds ≡ 1 → plain ds ≡ true
 unfolding plain
 plain-one [] h = absurd (omega arith)

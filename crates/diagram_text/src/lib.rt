@@ -4,7 +4,6 @@ use desk::DeskAnswer;
 use desk::DeskRun;
 use dimacs::TextWritten;
 ghost use mathlib.Core.Path.{_≡_};
-ghost use Prim.Native.Nat.{_≤_};
 ghost use lib.ListN.{length};
 ghost use Rattle.refusal.specs.Rules.{chain};
 ghost use Rattle.refusal.specs.declared.Verdict.the-variants as verdict;

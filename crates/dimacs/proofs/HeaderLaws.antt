@@ -3,10 +3,9 @@
 use mathlib.Core.Path.{_≡_, refl, sym, ap, _∙_}
 use mathlib.Core.Bool.{true, and-eq-true-iff}
 use mathlib.Core.List.{List, _∷_, _++_, append-assoc}
-use Prim.Native.Nat.{ℕ, _+_, _^_, _≤_, _<_}
-use native.Mathlib.Omega.{arith}
+use Prim.Native.Nat.{ℕ, _+_, _^_, _<_}
 use lib.IntN.{ℤ}
-use lib.ListN.{length, drop, length-append, length-drop}
+use lib.ListN.{length, drop}
 use lib.Seq.{drop-drop}
 use Rattle.decimal.specs.Digits.{isDigit, value, digits}
 use Rattle.decimal.specs.Bytes.{hasAt}
@@ -26,7 +25,6 @@ pub record HeaderSays (text : List ℕ) (at : ℕ) (ds es rest : List ℕ) : Typ
   pub is-header : isHeader text at ≡ true
   pub variables : variablesAt text at .value ≡ cut (value ds)
   pub clauses : clausesAt text at .value ≡ cut (value es)
-  pub variables-end : variablesAt text at .end ≡ at + 6 + length ds
   pub after : afterHeader text at ≡ at + 6 + length ds + 1 + length es + 1
   pub left : drop (afterHeader text at) text ≡ rest
 
@@ -43,7 +41,6 @@ module _ (text : List ℕ) (at : ℕ) where
         is-header = rw (k, v .0, h .variables, v .1, c .0, h .clauses, c .1);
         variables = rw (v .0);
         clauses = rw (v .0, c .0);
-        variables-end = rw (v .0);
         after = rw (v .0, c .0);
         left = rw (v .0, c .0, c .2);
       }
@@ -63,14 +60,6 @@ module _ (text : List ℕ) (at : ℕ) where
       let l : HeaderLine (drop at text) ds es rest
       = record { line = starts-with head (drop at text) (a .0) ∙ ap (λ (l : List ℕ). head ++ l) (drop-drop 6 at text ∙ v); variables = b .0; clauses = d .0 } in
       (ds, es, rest, l, line-header ds es rest l)
-
-  -- all that is read of it lies inside the text
-  pub header-inside : isHeader text at ≡ true → (at + 6 ≤ length text) × (variablesAt text at .end + 1 ≤ length text) × (afterHeader text at ≤ length text)
-  header-inside h =
-      let w = header-line h in
-      let s = w .4 in
-      let e = simp (length-append, length-drop) at (ap length (w .3 .line)) in
-      (omega arith, omega arith, omega arith)
 
 -- ---- the text that is written
 

@@ -6,8 +6,8 @@ use Prim.Native.Nat.{ℕ, suc, _+_, _-_, _≤_, _<_}
 use native.Mathlib.Nat.{add-zero, zero-add, add-suc, suc-add, le-add-right, le-of-eq}
 use native.Mathlib.Numerals.{add-one}
 use native.Mathlib.Omega.{arith}
-use lib.ListN.{length, getD, take, drop, set, length-append, length-drop, take-append-drop, drop-of-length-le}
-use lib.Seq.{sets, length-sets, sets-eq, set-set, set-comm, drop-set-add, take-set-le, take-all, drop-cons, append-snoc, set-append-seam, take-append-seam, drop-append-seam}
+use lib.ListN.{length, take, drop, set, length-append, length-drop, take-append-drop, drop-of-length-le}
+use lib.Seq.{sets, length-sets, sets-eq, set-set, set-comm, drop-set-add, take-set-le, take-all, take-append-seam, drop-append-seam}
 use borrow.Rule.Slice.PartMut.{midOf, postOf, putMid}
 use Rattle.lists.specs.Upto.{upTo}
 use Rattle.lists.specs.Buffer.{over, Wrote, Front}
@@ -21,10 +21,6 @@ module _ {A : Type 0} where
   over-none buf = refl
 
 module _ {A : Type 0} (xs buf : List A) where
-  pub over-length : length xs ≤ length buf → length (over xs buf) ≡ length buf
-  unfolding over
-  over-length h = length-append xs (drop (length xs) buf) ∙ rw length-drop (omega arith)
-
   pub over-take : take (length xs) (over xs buf) ≡ xs
   unfolding over
   over-take = take-append-seam xs (drop (length xs) buf)
@@ -41,14 +37,6 @@ module _ {A : Type 0} (xs buf : List A) where
   pub over-all : length buf ≤ length xs → over xs buf ≡ xs
   unfolding over
   over-all h = ap (λ (l : List A). xs ++ l) (drop-of-length-le buf h) ∙ append-nil xs
-
-  -- one more is stored after them
-  pub over-one : (a : A) → length xs < length buf → set (over xs buf) (length xs) a ≡ over (xs ++ (a ∷ [])) buf
-  unfolding over
-  over-one a h =
-      ap (λ (l : List A). set (xs ++ l) (length xs) a) (drop-cons buf (length xs) a h)
-      ∙ set-append-seam xs (getD buf (length xs) a) (drop (suc (length xs)) buf) a
-      ∙ sym (append-snoc xs a (drop (length (xs ++ (a ∷ []))) buf) ∙ rw (length-append, add-one))
 
 -- ---- words stored from an index on
 
@@ -117,10 +105,6 @@ module _ {A : Type 0} {l l₁ xs : List A} {at r₁ : ℕ} (a : Wrote l at xs l�
   -- the same index past them, said in another way
   pub wrote-next : {r : ℕ} → r₁ ≡ r → Wrote l at xs l₁ r
   wrote-next e = rw e at a
-
-  -- what was written is told by what it was written into
-  pub wrote-same : {l₂ : List A} {r₂ : ℕ} → Wrote l at xs l₂ r₂ → (l₁ ≡ l₂) × (r₁ ≡ r₂)
-  wrote-same b = (a .list ∙ sym (b .list), a .next ∙ sym (b .next))
 
 -- room for both is room for the first
 pub first-room : {A : Type 0} (xs ys : List A) (at n : ℕ) → at + length (xs ++ ys) ≤ n → at + length xs ≤ n
