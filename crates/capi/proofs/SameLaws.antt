@@ -6,14 +6,13 @@ use Prim.Native.Nat.{ℕ, _≤_}
 use lib.IntN.{ℤ}
 use lib.ListN.{length}
 use Rattle.lists.specs.Buffer.{over}
-use Rattle.refusal.specs.Rules.{Rule, chain}
+use Rattle.refusal.specs.Rules.{Rule}
 use Rattle.refusal.specs.Said.{Said}
 use Rattle.refusal.specs.Answered.{AnsweredBy}
 use Rattle.cnf.specs.Encoded.{encodedSaid}
 use Rattle.cnf.specs.declared.EncodeAnswer.{EncodeAnswer}
 use Rattle.diagram.specs.Lent.{Lent}
-use Rattle.diagram.specs.Rules.{checkRules}
-use Rattle.diagram.specs.Promise.{countsSaid, countsOf, checkSaid, CheckPromise}
+use Rattle.diagram.specs.Promise.{checkSaid, CheckPromise}
 use Rattle.diagram.specs.declared.CheckAnswer.{CheckAnswer}
 use Rattle.judge.specs.Promise.{judgeSaid, JudgePromise}
 use Rattle.judge.specs.declared.JudgeAnswer.{JudgeAnswer}
@@ -25,9 +24,10 @@ use Rattle.dimacs.specs.Write.{writtenSaid, WritePromise}
 use Rattle.dimacs.specs.Read.{readSaid, ReadPromise}
 use Rattle.dimacs.specs.declared.WriteAnswer.{WriteAnswer}
 use Rattle.dimacs.specs.declared.ReadAnswer.{ReadAnswer}
-use Rattle.capi.specs.Call.{entries, Gives, silent, Answered, Called}
+use Rattle.entries.specs.Answer.{entries, silent, Answered}
+use Rattle.capi.specs.Call.{Gives, Called}
 use Rattle.capi.specs.Promise.{CheckCall, JudgeCall, EncodeCall, ModelCall, WriteCall, ReadCall}
-use Rattle.capi.proofs.CallLaws.{silent-saying}
+use Rattle.capi.proofs.CallLaws.{check-said}
 
 given : {s t : Said} {answer answered : List ℕ} → 6 ≤ length answer → t ≡ s → Answered s answer answered → Gives t answer answered
 given {answer = answer} h e p = p .long h ∙ ap (λ (u : Said). over (entries u) answer) (sym e)
@@ -42,7 +42,7 @@ module _ (answer : List ℕ) (room : 6 ≤ length answer) where
   module _ (d : Lent) where
     -- without the counts
     pub check-same : (a : CheckAnswer) (answered : List ℕ) → CheckPromise d a → CheckCall d answer answered → Gives (silent (checkSaid (a .outcome))) answer answered
-    check-same a answered p = given room (ap silent (p .says) ∙ silent-saying (chain (checkRules d)) (countsSaid (countsOf d)))
+    check-same a answered p = given room (check-said p)
 
     pub judge-same : (build : List ℕ) (a : JudgeAnswer) (answered : List ℕ) → JudgePromise d build a → JudgeCall d build answer answered → Gives (judgeSaid (a .outcome)) answer answered
     judge-same build a answered p = given room (p .says)
