@@ -1,8 +1,4 @@
 // The encoder and the judge, each compared with the second one. Assumes nothing.
-use crate::counts;
-use crate::counts::Counts;
-use crate::counts::add;
-use crate::lent::Words;
 use cnf::Encoded;
 use judge::Judged;
 use second::builds::Verdict;
@@ -45,6 +41,11 @@ pub fn refused(number: usize, place: usize) -> Answer {
         clauses: 0,
         variables: 0,
     }
+}
+
+// Adds to how many words, counts, numbers, places, marks and verdicts differ.
+pub fn add(differ: &mut usize, n: usize) {
+    *differ = sum(*differ, n);
 }
 
 pub fn unlike_answers(a: Answer, b: Answer) -> usize {
@@ -98,18 +99,11 @@ fn count_encoded(
     targets: &[u32],
     words: &[i32],
     came: Answer,
-    counts: &mut Counts,
+    differ: &mut usize,
 ) {
     let right = second::words::expect(domains, layers, targets, words);
     let lost = sum(right.unlike, lost_marks(words, right.words));
-    add(counts, came.number, 1);
-    add(counts, counts::COMPARED, 1);
-    add(counts, counts::WORDS, right.words);
-    add(
-        counts,
-        counts::DIFFER,
-        sum(lost, unlike_answers(came, right_answer(right))),
-    );
+    add(differ, sum(lost, unlike_answers(came, right_answer(right))));
 }
 
 fn compare_encoders(
@@ -117,38 +111,27 @@ fn compare_encoders(
     layers: &[u32],
     targets: &[u32],
     words: &mut [i32],
-    counts: &mut Counts,
+    differ: &mut usize,
 ) -> Answer {
     let came = encode_over_marks(domains, layers, targets, words);
-    count_encoded(domains, layers, targets, words, came, counts);
+    count_encoded(domains, layers, targets, words, came, differ);
     came
 }
 
 // The same with the first `room` words lent.
-fn encode_part(
+pub fn encode(
     domains: &[u32],
     layers: &[u32],
     targets: &[u32],
     words: &mut [i32],
     room: usize,
-    counts: &mut Counts,
+    differ: &mut usize,
 ) -> Answer {
     if words.len() < room {
-        add(counts, counts::DIFFER, 1);
+        add(differ, 1);
         return refused(0, 0);
     }
-    compare_encoders(domains, layers, targets, &mut words[..room], counts)
-}
-
-pub fn encode(
-    domains: &[u32],
-    layers: &[u32],
-    targets: &[u32],
-    words: &mut Words,
-    room: usize,
-    counts: &mut Counts,
-) -> Answer {
-    encode_part(domains, layers, targets, words, room, counts)
+    compare_encoders(domains, layers, targets, &mut words[..room], differ)
 }
 
 // ---- the judge
@@ -184,16 +167,13 @@ pub fn judge(
     layers: &[u32],
     targets: &[u32],
     build: &[u32],
-    marks: &mut Words,
-    counts: &mut Counts,
+    marks: &mut [i32],
+    differ: &mut usize,
 ) -> Verdict {
     let answer = judge::judge(domains, layers, targets, build);
     let outcome = answer.outcome;
     let came = verdict_of(outcome);
     let right = second::builds::judge(domains, layers, targets, build, marks);
-    add(counts, came.number, 1);
-    add(counts, counts::COMPARED, 1);
-    add(counts, counts::ALLOWED, came.allowed);
-    add(counts, counts::DIFFER, unlike_verdicts(came, right));
+    add(differ, unlike_verdicts(came, right));
     came
 }

@@ -6,7 +6,7 @@ mod text_samples;
 use second::numbers::sum;
 
 fn main() {
-    let mut words = [0i32; 1940550];
+    let mut words = [0i32; 2048];
     let a = scope_samples::run_all(&mut words);
     let b = text_samples::run_all();
     show::tell_last(sum(a, b));

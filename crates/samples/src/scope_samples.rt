@@ -1,13 +1,10 @@
 // 01's samples of diagrams, builds and models: what is expected, and what came. Assumes nothing.
 use comparison::compare;
 use comparison::compare::Answer;
+use comparison::compare::add;
 use comparison::compare::refused;
 use comparison::compare::unlike_answers;
 use comparison::compare::unlike_verdicts;
-use comparison::counts;
-use comparison::counts::Counts;
-use comparison::counts::add;
-use comparison::lent::Words;
 use model::ModelRead;
 use second::builds::Verdict;
 use second::numbers::entry;
@@ -29,12 +26,12 @@ fn tell_answer(before: &[u8], a: Answer) {
 }
 
 // Ends the line of a case, and counts what differs.
-pub fn end_case(unlike: usize, counts: &mut Counts) {
+pub fn end_case(unlike: usize, differ: &mut usize) {
     if unlike != 0 {
         show::say(b" DIFFERS");
     }
     show::say(b"\n");
-    add(counts, counts::DIFFER, unlike);
+    add(differ, unlike);
 }
 
 // Encodes a diagram with so much room.
@@ -45,14 +42,14 @@ fn encode(
     targets: &[u32],
     room: usize,
     right: Answer,
-    words: &mut Words,
-    counts: &mut Counts,
+    words: &mut [i32],
+    differ: &mut usize,
 ) {
     show::say(name);
-    let came = compare::encode(domains, layers, targets, words, room, counts);
+    let came = compare::encode(domains, layers, targets, words, room, differ);
     tell_answer(b": expected", right);
     tell_answer(b", came", came);
-    end_case(unlike_answers(came, right), counts);
+    end_case(unlike_answers(came, right), differ);
 }
 
 // A diagram that passes: these are the counts of its result, and there is as much room as it needs.
@@ -64,8 +61,8 @@ fn passes(
     needed: usize,
     clauses: usize,
     variables: usize,
-    words: &mut Words,
-    counts: &mut Counts,
+    words: &mut [i32],
+    differ: &mut usize,
 ) {
     let right = Answer {
         number: 0,
@@ -74,7 +71,7 @@ fn passes(
         clauses,
         variables,
     };
-    encode(name, domains, layers, targets, needed, right, words, counts);
+    encode(name, domains, layers, targets, needed, right, words, differ);
 }
 
 // A diagram that is refused, with 77 words of room.
@@ -85,8 +82,8 @@ fn refuses(
     targets: &[u32],
     number: usize,
     place: usize,
-    words: &mut Words,
-    counts: &mut Counts,
+    words: &mut [i32],
+    differ: &mut usize,
 ) {
     encode(
         name,
@@ -96,17 +93,17 @@ fn refuses(
         77,
         refused(number, place),
         words,
-        counts,
+        differ,
     );
 }
 
-fn passing(words: &mut Words, counts: &mut Counts) {
+fn passing(words: &mut [i32], differ: &mut usize) {
     group(b"the scope: samples of diagrams");
-    passes(b"S1", &[2], &[1], &[0, 1], 42, 14, 7, words, counts);
-    passes(b"S2", &[1], &[1], &[1], 24, 9, 5, words, counts);
+    passes(b"S1", &[2], &[1], &[0, 1], 42, 14, 7, words, differ);
+    passes(b"S2", &[1], &[1], &[1], 24, 9, 5, words, differ);
 }
 
-fn room(words: &mut Words, counts: &mut Counts) {
+fn room(words: &mut [i32], differ: &mut usize) {
     refuses(
         b"S4, S3 with room for 77",
         &[2, 2],
@@ -115,7 +112,7 @@ fn room(words: &mut Words, counts: &mut Counts) {
         7,
         78,
         words,
-        counts,
+        differ,
     );
     passes(
         b"S3 and S4, with room for 78",
@@ -126,12 +123,12 @@ fn room(words: &mut Words, counts: &mut Counts) {
         25,
         12,
         words,
-        counts,
+        differ,
     );
 }
 
-fn targets(words: &mut Words, counts: &mut Counts) {
-    refuses(b"S5", &[2, 2], &[1, 2], &[1, 0, 0, 1], 6, 0, words, counts);
+fn targets(words: &mut [i32], differ: &mut usize) {
+    refuses(b"S5", &[2, 2], &[1, 2], &[1, 0, 0, 1], 6, 0, words, differ);
     refuses(
         b"S5 with three targets",
         &[2, 2],
@@ -140,11 +137,11 @@ fn targets(words: &mut Words, counts: &mut Counts) {
         5,
         0,
         words,
-        counts,
+        differ,
     );
 }
 
-fn bad_domains(words: &mut Words, counts: &mut Counts) {
+fn bad_domains(words: &mut [i32], differ: &mut usize) {
     refuses(
         b"S6 with domains 2 0",
         &[2, 0],
@@ -153,7 +150,7 @@ fn bad_domains(words: &mut Words, counts: &mut Counts) {
         2,
         1,
         words,
-        counts,
+        differ,
     );
     refuses(
         b"S6 with domain 33",
@@ -163,13 +160,13 @@ fn bad_domains(words: &mut Words, counts: &mut Counts) {
         2,
         0,
         words,
-        counts,
+        differ,
     );
 }
 
 // One option of 32 values, all to T: 6 + 2 + 14 * 32 + 33 + 3 * 496 words, 3 + 1 + 4 * 32 + 1 + 496 clauses, 32 + 1 + 2 + 32
 // variables.
-fn widest_domain(words: &mut Words, counts: &mut Counts) {
+fn widest_domain(words: &mut [i32], differ: &mut usize) {
     passes(
         b"S6 with domain 32, all to T",
         &[32],
@@ -179,11 +176,11 @@ fn widest_domain(words: &mut Words, counts: &mut Counts) {
         629,
         67,
         words,
-        counts,
+        differ,
     );
 }
 
-fn bad_options(words: &mut Words, counts: &mut Counts) {
+fn bad_options(words: &mut [i32], differ: &mut usize) {
     refuses(
         b"S7 with 0 options",
         &[],
@@ -192,7 +189,7 @@ fn bad_options(words: &mut Words, counts: &mut Counts) {
         1,
         0,
         words,
-        counts,
+        differ,
     );
     refuses(
         b"S7 with 65 options",
@@ -202,12 +199,12 @@ fn bad_options(words: &mut Words, counts: &mut Counts) {
         1,
         0,
         words,
-        counts,
+        differ,
     );
 }
 
-fn bad_nodes(words: &mut Words, counts: &mut Counts) {
-    refuses(b"S7 with no nodes", &[2], &[], &[], 3, 0, words, counts);
+fn bad_nodes(words: &mut [i32], differ: &mut usize) {
+    refuses(b"S7 with no nodes", &[2], &[], &[], 3, 0, words, differ);
     refuses(
         b"S7 with layers 1 1",
         &[2, 2],
@@ -216,18 +213,18 @@ fn bad_nodes(words: &mut Words, counts: &mut Counts) {
         4,
         1,
         words,
-        counts,
+        differ,
     );
 }
 
-fn run_diagrams(words: &mut Words, counts: &mut Counts) {
-    passing(words, counts);
-    room(words, counts);
-    targets(words, counts);
-    bad_domains(words, counts);
-    widest_domain(words, counts);
-    bad_options(words, counts);
-    bad_nodes(words, counts);
+fn run_diagrams(words: &mut [i32], differ: &mut usize) {
+    passing(words, differ);
+    room(words, differ);
+    targets(words, differ);
+    bad_domains(words, differ);
+    widest_domain(words, differ);
+    bad_options(words, differ);
+    bad_nodes(words, differ);
 }
 
 // ---- builds
@@ -245,12 +242,12 @@ fn tell_verdict(before: &[u8], v: Verdict) {
 }
 
 // Judges a build of S3.
-fn judge(name: &[u8], build: &[u32], right: Verdict, marks: &mut Words, counts: &mut Counts) {
+fn judge(name: &[u8], build: &[u32], right: Verdict, marks: &mut [i32], differ: &mut usize) {
     show::say(name);
-    let came = compare::judge(&[2, 2], &[1, 2], &[3, 0, 0, 1], build, marks, counts);
+    let came = compare::judge(&[2, 2], &[1, 2], &[3, 0, 0, 1], build, marks, differ);
     tell_verdict(b": expected", right);
     tell_verdict(b", came", came);
-    end_case(unlike_verdicts(came, right), counts);
+    end_case(unlike_verdicts(came, right), differ);
 }
 
 const ALLOWED: Verdict = Verdict {
@@ -265,10 +262,10 @@ const NOT_ALLOWED: Verdict = Verdict {
     allowed: 0,
 };
 
-fn run_builds(marks: &mut Words, counts: &mut Counts) {
+fn run_builds(marks: &mut [i32], differ: &mut usize) {
     group(b"the scope: builds of S3");
-    judge(b"S3 with build 0 1", &[0, 1], ALLOWED, marks, counts);
-    judge(b"S3 with build 1 1", &[1, 1], NOT_ALLOWED, marks, counts);
+    judge(b"S3 with build 0 1", &[0, 1], ALLOWED, marks, differ);
+    judge(b"S3 with build 1 1", &[1, 1], NOT_ALLOWED, marks, differ);
 }
 
 // ---- models
@@ -338,40 +335,40 @@ fn came_of(literals: &[i32]) -> Built {
 }
 
 // A model that is refused leaves a seven where the value would be.
-fn model(literals: &[i32], number: usize, place: usize, value: usize, counts: &mut Counts) {
+fn model(literals: &[i32], number: usize, place: usize, value: usize, differ: &mut usize) {
     show::say(b"S8 with model [");
     show::say_words(literals, 0, literals.len());
     let right = expected(number, place, value);
     let came = came_of(literals);
     tell_built(b" ]: expected", right);
     tell_built(b", came", came);
-    end_case(unlike_built(came, right), counts);
+    end_case(unlike_built(came, right), differ);
 }
 
-fn run_models(counts: &mut Counts) {
+fn run_models(differ: &mut usize) {
     group(b"the scope: models of S1");
-    model(&[-1, 2], 0, 0, 1, counts);
-    model(&[2], 0, 0, 1, counts);
-    model(&[1], 13, 0, 7, counts);
-    model(&[], 12, 0, 7, counts);
-    model(&[1, 2], 12, 0, 7, counts);
+    model(&[-1, 2], 0, 0, 1, differ);
+    model(&[2], 0, 0, 1, differ);
+    model(&[1], 13, 0, 7, differ);
+    model(&[], 12, 0, 7, differ);
+    model(&[1, 2], 12, 0, 7, differ);
 }
 
-fn run_bad_literals(counts: &mut Counts) {
-    model(&[2, -2], 11, 1, 7, counts);
-    model(&[2, -2, 0], 10, 2, 7, counts);
-    model(&[8], 10, 0, 7, counts);
-    model(&[0], 10, 0, 7, counts);
-    model(&[-2147483648], 10, 0, 7, counts);
+fn run_bad_literals(differ: &mut usize) {
+    model(&[2, -2], 11, 1, 7, differ);
+    model(&[2, -2, 0], 10, 2, 7, differ);
+    model(&[8], 10, 0, 7, differ);
+    model(&[0], 10, 0, 7, differ);
+    model(&[-2147483648], 10, 0, 7, differ);
 }
 
 // ---- all of them; gives how many things differ
 
-pub fn run_all(words: &mut Words) -> usize {
-    let mut counts = [0usize; 14];
-    run_diagrams(words, &mut counts);
-    run_builds(words, &mut counts);
-    run_models(&mut counts);
-    run_bad_literals(&mut counts);
-    counts::count(&counts, counts::DIFFER)
+pub fn run_all(words: &mut [i32]) -> usize {
+    let mut differ: usize = 0;
+    run_diagrams(words, &mut differ);
+    run_builds(words, &mut differ);
+    run_models(&mut differ);
+    run_bad_literals(&mut differ);
+    differ
 }

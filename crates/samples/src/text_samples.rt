@@ -1,7 +1,5 @@
 // 01's samples of clause text: what came, and what is expected. Assumes nothing.
 use crate::scope_samples::end_case;
-use comparison::counts;
-use comparison::counts::Counts;
 use dimacs::TextRead;
 use second::numbers::sum;
 use second::numbers::unlike;
@@ -58,32 +56,32 @@ fn tell_expected(number: usize, place: usize, words: &[i32]) {
 }
 
 // Reads a text into four sevens; a refusal is expected, or with number 0 these words.
-fn read(text: &[u8], number: usize, place: usize, words: &[i32], counts: &mut Counts) {
+fn read(text: &[u8], number: usize, place: usize, words: &[i32], differ: &mut usize) {
     let mut list = [7i32; 4];
     let came = answer_of(read_open(text, &mut list));
     tell_expected(number, place, words);
     let refusals = sum(unlike(came.number, number), unlike(came.place, place));
     let lists = sum(unlike(came.words, words.len()), unlike_list(&list, words));
-    end_case(sum(refusals, lists), counts);
+    end_case(sum(refusals, lists), differ);
 }
 
-fn good(counts: &mut Counts) {
-    read(b"p cnf 1 1\n1 0", 0, 0, &[1, 0], counts);
-    read(b"p cnf 0 0\n", 0, 0, &[], counts);
+fn good(differ: &mut usize) {
+    read(b"p cnf 1 1\n1 0", 0, 0, &[1, 0], differ);
+    read(b"p cnf 0 0\n", 0, 0, &[], differ);
 }
 
-fn refused(counts: &mut Counts) {
-    read(b"p cnf 1 1\n1", 15, 11, &[], counts);
-    read(b"p cnf 1 1\n2 0", 14, 10, &[], counts);
-    read(b"p cnf 1 1\n-0", 18, 10, &[], counts);
-    read(b"p cnf 1 2\n1 0", 19, 1, &[], counts);
+fn refused(differ: &mut usize) {
+    read(b"p cnf 1 1\n1", 15, 11, &[], differ);
+    read(b"p cnf 1 1\n2 0", 14, 10, &[], differ);
+    read(b"p cnf 1 1\n-0", 18, 10, &[], differ);
+    read(b"p cnf 1 2\n1 0", 19, 1, &[], differ);
 }
 
 // Gives how many things differ.
 pub fn run_all() -> usize {
     group(b"the scope: samples of clause text");
-    let mut counts = [0usize; 14];
-    good(&mut counts);
-    refused(&mut counts);
-    counts::count(&counts, counts::DIFFER)
+    let mut differ: usize = 0;
+    good(&mut differ);
+    refused(&mut differ);
+    differ
 }
