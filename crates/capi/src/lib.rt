@@ -1,6 +1,6 @@
 // The C interface: each function calls one of the libraries and puts what it says into the lent answer. Assumes nothing.
 ghost use Rattle.diagram.specs.Lent.{lent};
-ghost use Rattle.capi.specs.Promise.{CheckCall, JudgeCall, EncodeCall, ModelCall, WriteCall, ReadCall};
+ghost use Rattle.calls.specs.Promise.{CheckCall, JudgeCall, EncodeCall, ModelCall, WriteCall, ReadCall};
 
 // An answer that is shorter has no room for what is said.
 const ENTRIES: usize = entries::ENTRIES;
@@ -13,7 +13,7 @@ pub extern "C" fn bb_check(domains: &[u32], layers: &[u32], targets: &[u32], ans
         return;
     }
     let checked = soundness::check(domains, layers, targets);
-    answers::post_check(answer, checked);
+    diagram_answers::post_check(answer, checked);
 }
 
 #[no_mangle]
@@ -30,7 +30,7 @@ pub extern "C" fn bb_encode(
         return;
     }
     let encoded = encoder::encode(domains, layers, targets, out);
-    answers::post_encode(answer, encoded);
+    diagram_answers::post_encode(answer, encoded);
 }
 
 #[no_mangle]
@@ -47,7 +47,7 @@ pub extern "C" fn bb_judge(
         return;
     }
     let judged = judge::judge(domains, layers, targets, build);
-    answers::post_judge(answer, judged);
+    diagram_answers::post_judge(answer, judged);
 }
 
 #[no_mangle]
@@ -65,7 +65,7 @@ pub extern "C" fn bb_model(
         return;
     }
     let read = model::read_model(domains, layers, targets, literals, out);
-    answers::post_model(answer, read);
+    diagram_answers::post_model(answer, read);
 }
 
 #[no_mangle]
@@ -76,7 +76,7 @@ pub extern "C" fn bb_text_write(v: u32, words: &[i32], out: &mut [u8], answer: &
         return;
     }
     let written = text_writer::write_text(v, words, out);
-    answers::post_write(answer, written);
+    text_answers::post_write(answer, written);
 }
 
 #[no_mangle]
@@ -87,5 +87,5 @@ pub extern "C" fn bb_text_read(text: &[u8], out: &mut [i32], answer: &mut [u64])
         return;
     }
     let read = text_reader::read_text(text, out);
-    answers::post_read(answer, read);
+    text_answers::post_read(answer, read);
 }

@@ -2,7 +2,7 @@
 use mathlib.Core.Path.{sym}
 use borrow.Author.Needs.{needs}
 use Rattle.entries.proofs.AnswerLaws.{left-short, answered-as}
-use Rattle.capi.proofs.CallLaws.{check-said}
+use Rattle.calls.proofs.CallLaws.{check-said}
 use Rattle.capi.proofs.bb_check.Statement.{statement}
 use Rattle.capi.proofs.bb_check.Tie as tie
 

@@ -1,6 +1,6 @@
 -- `capi::bb_encode` meets its contract: what `encode` said. Assumes nothing.
 use borrow.Author.Needs.{needs}
-use Rattle.capi.proofs.CallLaws.{called-short, called-long}
+use Rattle.calls.proofs.CallLaws.{called-short, called-long}
 use Rattle.capi.proofs.bb_encode.Statement.{statement}
 use Rattle.capi.proofs.bb_encode.Tie as tie
 

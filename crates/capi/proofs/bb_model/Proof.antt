@@ -1,6 +1,6 @@
 -- `capi::bb_model` meets its contract: what `read_model` said. Assumes nothing.
 use borrow.Author.Needs.{needs}
-use Rattle.capi.proofs.CallLaws.{called-short, called-long}
+use Rattle.calls.proofs.CallLaws.{called-short, called-long}
 use Rattle.capi.proofs.bb_model.Statement.{statement}
 use Rattle.capi.proofs.bb_model.Tie as tie
 

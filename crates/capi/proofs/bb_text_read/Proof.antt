@@ -1,6 +1,6 @@
 -- `capi::bb_text_read` meets its contract: what `read_text` said. Assumes nothing.
 use borrow.Author.Needs.{needs}
-use Rattle.capi.proofs.CallLaws.{called-short, called-long}
+use Rattle.calls.proofs.CallLaws.{called-short, called-long}
 use Rattle.capi.proofs.bb_text_read.Statement.{statement}
 use Rattle.capi.proofs.bb_text_read.Tie as tie
 

@@ -1,6 +1,6 @@
 -- `capi::bb_text_write` meets its contract: what `write_text` said. Assumes nothing.
 use borrow.Author.Needs.{needs}
-use Rattle.capi.proofs.CallLaws.{called-short, called-long}
+use Rattle.calls.proofs.CallLaws.{called-short, called-long}
 use Rattle.capi.proofs.bb_text_write.Statement.{statement}
 use Rattle.capi.proofs.bb_text_write.Tie as tie
 

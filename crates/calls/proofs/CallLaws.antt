@@ -15,7 +15,7 @@ use Rattle.diagram.specs.Promise.{countsSaid, countsOf, checkSaid, CheckPromise
 use Rattle.diagram.specs.declared.CheckAnswer.{CheckAnswer}
 use Rattle.entries.specs.Answer.{silent, Answered}
 use Rattle.entries.proofs.AnswerLaws.{left-short, left-long, answered-as}
-use Rattle.capi.specs.Call.{Called}
+use Rattle.calls.specs.Call.{Called}
 
 module _ {B : Type 0} {rules : List Rule} {values : List ℕ} {written before : B} {answer : List ℕ} where
   pub called-short : length answer < 6 → Called rules values written before answer before answer

@@ -1,12 +1,8 @@
-// What each of the libraries answered, put into a lent answer of the C interface. Assumes nothing.
+// What each function that is lent a diagram answered, put into a lent answer of the C interface. Assumes nothing.
 use cnf::EncodeAnswer;
 use cnf::Encoded;
 use diagram::CheckAnswer;
 use diagram::Checked;
-use dimacs::ReadAnswer;
-use dimacs::TextRead;
-use dimacs::TextWritten;
-use dimacs::WriteAnswer;
 use entries::post_refusal;
 use entries::post_result;
 use judge::JudgeAnswer;
@@ -18,8 +14,6 @@ ghost use Rattle.cnf.specs.Encoded.{encodedSaid};
 ghost use Rattle.diagram.specs.Promise.{checkSaid};
 ghost use Rattle.judge.specs.Promise.{judgeSaid};
 ghost use Rattle.model.specs.Promise.{modelSaid};
-ghost use Rattle.dimacs.specs.Write.{writtenSaid};
-ghost use Rattle.dimacs.specs.Read.{readSaid};
 
 // Without the counts.
 pub fn post_check(answer: &mut [u64], said: CheckAnswer)
@@ -60,25 +54,5 @@ pub fn post_model(answer: &mut [u64], said: ModelAnswer)
     match outcome {
         ModelRead::Refused(r) => post_refusal(answer, r),
         ModelRead::Built(n) => post_result(answer, n, 0, 0),
-    }
-}
-
-pub fn post_write(answer: &mut [u64], said: WriteAnswer)
-    ensures { λ _. ⌜ Answered (writtenSaid (said .outcome)) (now (answer .entry)) (now (answer .exit)) ⌝ }
-{
-    let outcome = said.outcome;
-    match outcome {
-        TextWritten::Refused(r) => post_refusal(answer, r),
-        TextWritten::Written(n) => post_result(answer, n, 0, 0),
-    }
-}
-
-pub fn post_read(answer: &mut [u64], said: ReadAnswer)
-    ensures { λ _. ⌜ Answered (readSaid (said .outcome)) (now (answer .entry)) (now (answer .exit)) ⌝ }
-{
-    let outcome = said.outcome;
-    match outcome {
-        TextRead::Refused(r) => post_refusal(answer, r),
-        TextRead::Read(t) => post_result(answer, t.words, t.clauses, t.variables),
     }
 }

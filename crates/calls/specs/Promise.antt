@@ -23,7 +23,7 @@ use Rattle.dimacs.specs.Write.{writeRules}
 use Rattle.dimacs.specs.Rules.{readRules, textWords, headerVariables}
 use Rattle.dimacs.specs.Read.{tallyRead}
 use Rattle.entries.specs.Answer.{Answered, left-once}
-use Rattle.capi.specs.Call.{Called, called-once}
+use Rattle.calls.specs.Call.{Called, called-once}
 
 module _ (d : Lent) where
   -- numbers 1 to 6, and no values

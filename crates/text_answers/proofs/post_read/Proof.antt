@@ -1,10 +1,10 @@
--- `answers::post_read` meets its contract, case by case. Assumes nothing.
+-- `text_answers::post_read` meets its contract, case by case. Assumes nothing.
 use borrow.Author.Needs.{needs}
 use Rattle.dimacs.specs.Read.{readSaid}
 use Rattle.dimacs.specs.declared.TextRead.the-variants.{Read, Refused}
 use Rattle.entries.proofs.AnswerLaws.{case-answered}
-use Rattle.answers.proofs.post_read.Statement.{statement}
-use Rattle.answers.proofs.post_read.Tie as tie
+use Rattle.text_answers.proofs.post_read.Statement.{statement}
+use Rattle.text_answers.proofs.post_read.Tie as tie
 
 pub post-read-spec : {M : Type 1} → statement M
 post-read-spec =

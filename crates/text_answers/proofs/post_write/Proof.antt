@@ -1,10 +1,10 @@
--- `answers::post_write` meets its contract, case by case. Assumes nothing.
+-- `text_answers::post_write` meets its contract, case by case. Assumes nothing.
 use borrow.Author.Needs.{needs}
 use Rattle.dimacs.specs.Write.{writtenSaid}
 use Rattle.dimacs.specs.declared.TextWritten.the-variants.{Written, Refused}
 use Rattle.entries.proofs.AnswerLaws.{case-answered}
-use Rattle.answers.proofs.post_write.Statement.{statement}
-use Rattle.answers.proofs.post_write.Tie as tie
+use Rattle.text_answers.proofs.post_write.Statement.{statement}
+use Rattle.text_answers.proofs.post_write.Tie as tie
 
 pub post-write-spec : {M : Type 1} → statement M
 post-write-spec =

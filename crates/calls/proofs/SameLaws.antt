@@ -25,9 +25,9 @@ use Rattle.dimacs.specs.Read.{readSaid, ReadPromise}
 use Rattle.dimacs.specs.declared.WriteAnswer.{WriteAnswer}
 use Rattle.dimacs.specs.declared.ReadAnswer.{ReadAnswer}
 use Rattle.entries.specs.Answer.{entries, silent, Answered}
-use Rattle.capi.specs.Call.{Gives, Called}
-use Rattle.capi.specs.Promise.{CheckCall, JudgeCall, EncodeCall, ModelCall, WriteCall, ReadCall}
-use Rattle.capi.proofs.CallLaws.{check-said}
+use Rattle.calls.specs.Call.{Gives, Called}
+use Rattle.calls.specs.Promise.{CheckCall, JudgeCall, EncodeCall, ModelCall, WriteCall, ReadCall}
+use Rattle.calls.proofs.CallLaws.{check-said}
 
 given : {s t : Said} {answer answered : List ℕ} → 6 ≤ length answer → t ≡ s → Answered s answer answered → Gives t answer answered
 given {answer = answer} h e p = p .long h ∙ ap (λ (u : Said). over (entries u) answer) (sym e)

@@ -1,10 +1,10 @@
--- `answers::post_encode` meets its contract, case by case. Assumes nothing.
+-- `diagram_answers::post_encode` meets its contract, case by case. Assumes nothing.
 use borrow.Author.Needs.{needs}
 use Rattle.cnf.specs.Encoded.{encodedSaid}
 use Rattle.cnf.specs.declared.Encoded.the-variants.{Written, Refused}
 use Rattle.entries.proofs.AnswerLaws.{case-answered}
-use Rattle.answers.proofs.post_encode.Statement.{statement}
-use Rattle.answers.proofs.post_encode.Tie as tie
+use Rattle.diagram_answers.proofs.post_encode.Statement.{statement}
+use Rattle.diagram_answers.proofs.post_encode.Tie as tie
 
 pub post-encode-spec : {M : Type 1} → statement M
 post-encode-spec =

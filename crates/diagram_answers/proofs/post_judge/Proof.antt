@@ -1,10 +1,10 @@
--- `answers::post_judge` meets its contract, case by case. Assumes nothing.
+-- `diagram_answers::post_judge` meets its contract, case by case. Assumes nothing.
 use borrow.Author.Needs.{needs}
 use Rattle.judge.specs.Promise.{judgeSaid}
 use Rattle.judge.specs.declared.Judged.the-variants.{Allowed, NotAllowed, Refused}
 use Rattle.entries.proofs.AnswerLaws.{case-answered}
-use Rattle.answers.proofs.post_judge.Statement.{statement}
-use Rattle.answers.proofs.post_judge.Tie as tie
+use Rattle.diagram_answers.proofs.post_judge.Statement.{statement}
+use Rattle.diagram_answers.proofs.post_judge.Tie as tie
 
 pub post-judge-spec : {M : Type 1} → statement M
 post-judge-spec =

@@ -1,11 +1,11 @@
--- `answers::post_check` meets its contract, case by case. Assumes nothing.
+-- `diagram_answers::post_check` meets its contract, case by case. Assumes nothing.
 use borrow.Author.Needs.{needs}
 use Rattle.diagram.specs.Promise.{checkSaid}
 use Rattle.diagram.specs.declared.Checked.the-variants.{Sound, Refused}
 use Rattle.entries.specs.Answer.{silent}
 use Rattle.entries.proofs.AnswerLaws.{case-answered}
-use Rattle.answers.proofs.post_check.Statement.{statement}
-use Rattle.answers.proofs.post_check.Tie as tie
+use Rattle.diagram_answers.proofs.post_check.Statement.{statement}
+use Rattle.diagram_answers.proofs.post_check.Tie as tie
 
 pub post-check-spec : {M : Type 1} → statement M
 post-check-spec =

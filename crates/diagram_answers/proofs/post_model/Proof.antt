@@ -1,10 +1,10 @@
--- `answers::post_model` meets its contract, case by case. Assumes nothing.
+-- `diagram_answers::post_model` meets its contract, case by case. Assumes nothing.
 use borrow.Author.Needs.{needs}
 use Rattle.model.specs.Promise.{modelSaid}
 use Rattle.model.specs.declared.ModelRead.the-variants.{Built, Refused}
 use Rattle.entries.proofs.AnswerLaws.{case-answered}
-use Rattle.answers.proofs.post_model.Statement.{statement}
-use Rattle.answers.proofs.post_model.Tie as tie
+use Rattle.diagram_answers.proofs.post_model.Statement.{statement}
+use Rattle.diagram_answers.proofs.post_model.Tie as tie
 
 pub post-model-spec : {M : Type 1} → statement M
 post-model-spec =
