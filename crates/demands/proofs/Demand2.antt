@@ -22,7 +22,7 @@ use Rattle.clauses.proofs.Edition1.{pair-twice}
 use Rattle.clauses.proofs.Edition1Sizes.{clause-count, word-count, last-variable, clauses-most, words-most, variables-most}
 use Rattle.clauses.proofs.LiteralLaws.{literal-within, closed-list, zeros-list, clauses-back, word-within}
 use Rattle.encoder.proofs.EncodeLaws.{encode-written}
-use Rattle.demands.specs.Demand2.{ExactlyTheList, Counts, Numbers, Maxima, Attains, largest, WellFormed}
+use Rattle.demands.specs.Demand2.{ExactlyTheList, Counts, Numbers, Maxima, largest, WellFormed}
 use Rattle.demands.proofs.Flat.{Flat, flat-sound, flat-clauses, flat-words, flat-variables}
 
 -- ---- in any edition
@@ -54,11 +54,11 @@ counts d =
       word-count = word-count d ∙ ap (λ (n : ℕ). 6 + 2 * nodes d + 14 * edges d + n) (sum-same _ _ (options d) (λ i h. omega (arith, thrice (domain d i))));
     }
 
-pub maxima : (d : Lent) → Sound d → Maxima d
-maxima d s = record { few-clauses = clauses-most d (s .shaped); few-words = words-most d (s .shaped); few-variables = variables-most d (s .shaped) }
+pub maxima : (d : Lent) → Sound d → Maxima _≤_ d
+maxima d s = record { most-clauses = clauses-most d (s .shaped); most-words = words-most d (s .shaped); most-variables = variables-most d (s .shaped) }
 
-pub attained : Attains largest
+pub attained : Sound largest × Maxima (λ n most. n ≡ most) largest
 unfolding largest
 attained =
     let fits : Flat 64 32 4095 131072 = record { few-options = (omega arith, omega arith); few-values = (omega arith, omega arith); few-nodes = omega arith; all-edges = refl } in
-    record { sound = flat-sound fits; all-clauses = flat-clauses fits; all-words = flat-words fits; all-variables = flat-variables fits }
+    (flat-sound fits, record { most-clauses = flat-clauses fits; most-words = flat-words fits; most-variables = flat-variables fits })

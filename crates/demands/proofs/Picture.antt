@@ -2,7 +2,7 @@
 -- Assumes nothing.
 use mathlib.Core.Path.{_≡_, refl, sym, _∙_, ap, subst}
 use mathlib.Core.Logic.{_⊎_, inl, inr, ⊎-elim}
-use mathlib.Core.Bool.{Bool, false, _&&_, false≢true}
+use mathlib.Core.Bool.{Bool, false, _&&_, false≢true, true}
 use mathlib.Core.List.{List, [], _∷_, List·Memᴰ, List·Memᴰ·head, List·Memᴰ·tail}
 use Prim.Native.Nat.{ℕ, zero, suc, _<_}
 use native.Mathlib.Omega.{arith}
@@ -16,7 +16,7 @@ use Rattle.lists.proofs.UptoLaws.{list-same}
 use Rattle.lists.proofs.EveryLaws.{every-more, each-every, entry-in}
 use Rattle.refusal.specs.Rules.{chain}
 use Rattle.cnf.specs.Clause.{Clause, Setting, Satisfies, Reached, given, unit, Conflict}
-use Rattle.diagram.specs.Lent.{firstEdge, step, walk, end, chosen, Build, RootAllows}
+use Rattle.diagram.specs.Lent.{firstEdge, step, walk, end, chosen, Build, RootAllows, options}
 use Rattle.diagram.specs.Numbers.{firstValue}
 use Rattle.diagram.specs.Sound.{Sound}
 use Rattle.diagram.specs.Rules.{badLayer, permits, owner, badTarget, optionRules, nodeRules, targetRules, checkRules}
@@ -24,6 +24,7 @@ use Rattle.diagram.proofs.SoundLaws.{passed-sound}
 use Rattle.diagram.proofs.AllowsLaws.{Ranked, sound-ranked, allows-exactly}
 use Rattle.judge.specs.Build.{buildRules, Fits}
 use Rattle.judge.proofs.JudgeLaws.{passed-fits}
+use Rattle.clauses.specs.Variables.{valueVariable}
 use Rattle.clauses.specs.Clauses.{edition1, firstHelper, lastVariable, clauses}
 use Rattle.clauses.proofs.Edition1.{edition1-one}
 use Rattle.clauses.proofs.VariableLaws.{settingOf}
@@ -31,7 +32,7 @@ use Rattle.clauses.proofs.Common.{Common, clauses-common}
 use Rattle.clauses.proofs.Decided.{arrives, taken}
 use Rattle.clauses.proofs.Satisfied.{clauses-meant}
 use Rattle.demands.specs.HalfFinished.{OrderLiteral, FitsOrder}
-use Rattle.demands.specs.Demand3.{Agrees, SettingFor, SameTo, Gives, BuildLiteral, OneSetting, NoSetting, Meaning}
+use Rattle.demands.specs.Demand3.{SettingFor, SameTo, Gives, BuildLiteral, OneSetting, NoSetting, Meaning}
 use Rattle.demands.specs.Samples.{s1, s2, s3}
 use Rattle.demands.specs.Picture.{s3Clauses, build01, build11, setting01, Reach, Propagates, given11, reached11, first0Out, second0Out, secondOut, Picture}
 use Rattle.demands.proofs.Meaning.{ownSetting, setting-own}
@@ -111,7 +112,7 @@ setting-of σ p = list-same (λ k. σ (suc k) ∷ []) (λ k. own (suc k) ∷ [])
 for01 : (σ : Setting) → Satisfies σ (clauses edition1 s3) → SettingFor s3 (clauses edition1 s3) build01 σ
 for01 σ s = let t = edition1-demand3 .with-functions s3 sound3 .every-satisfying σ s in record { agrees = agrees (t .0) (t .2) (only01 (t .0) (t .1) (t .3)); satisfies = s }
   where
-    agrees : (x : ℕ → ℕ) → Gives s3 x σ → (x 0 ≡ 0) × (x 1 ≡ 1) → Agrees s3 build01 σ
+    agrees : (x : ℕ → ℕ) → Gives s3 x σ → (x 0 ≡ 0) × (x 1 ≡ 1) → (i : ℕ) → i < options s3 → σ (valueVariable s3 i (build01 i)) ≡ true
     agrees x g o zero h = g .exactly 0 0 (omega arith) (omega arith) .1 (sym (o .0))
     agrees x g o (suc zero) h = g .exactly 1 1 (omega arith) (omega arith) .1 (sym (o .1))
     agrees x g o (suc (suc i)) h = absurd (omega arith)

@@ -61,18 +61,11 @@ pub record Numbers (d : Lent) : Type 0 where
   pub reference : (r : ℕ) → referenceVariable d r ≡ D d + 1 + r
   pub edge : (v j : ℕ) → edgeVariable d v j ≡ D d + nodes d + 3 + (edgesBefore d v + j)
 
--- how large they can be
-pub record Maxima (d : Lent) : Type 0 where
-  pub few-clauses : length (clauses edition1 d) ≤ 560195
-  pub few-words : length (words (clauses edition1 d)) ≤ 1940550
-  pub few-variables : lastVariable edition1 d ≤ 137218
-
--- a sound diagram that has as many as there can be
-pub record Attains (d : Lent) : Type 0 where
-  pub sound : Sound d
-  pub all-clauses : length (clauses edition1 d) ≡ 560195
-  pub all-words : length (words (clauses edition1 d)) ≡ 1940550
-  pub all-variables : lastVariable edition1 d ≡ 137218
+-- how large they can be: `Is` is `_≤_` of every sound diagram, and `_≡_` of the largest
+pub record Maxima (Is : ℕ → ℕ → Type 0) (d : Lent) : Type 0 where
+  pub most-clauses : Is (length (clauses edition1 d)) 560195
+  pub most-words : Is (length (words (clauses edition1 d))) 1940550
+  pub most-variables : Is (lastVariable edition1 d) 137218
 
 -- 64 options of 32 values; a root and 4,095 nodes of layer 2; every edge leads to F
 unfoldable pub largest : Lent

@@ -28,14 +28,10 @@ use Rattle.demands.specs.HalfFinished.{Order, OrderLiteral, HalfFinished
 
 -- ---- words, for a build that gives option i the value x i
 
--- the setting agrees with the build: the variable of each option's value is true. (Where the setting also satisfies the
--- clauses, those of the option's other values are false: `every-satisfying`, below.)
-abbrev pub Agrees : Lent → (ℕ → ℕ) → Setting → Type 0
-Agrees d x σ = (i : ℕ) → i < options d → σ (valueVariable d i (x i)) ≡ true
-
--- a setting for the build: it agrees with the build and satisfies every clause
+-- a setting for the build: the variable of each option's value is true, and every clause is satisfied. (Then those of the
+-- option's other values are false: `every-satisfying`, below.)
 pub record SettingFor (d : Lent) (cs : List Clause) (x : ℕ → ℕ) (σ : Setting) : Type 0 where
-  pub agrees : Agrees d x σ
+  pub agrees : (i : ℕ) → i < options d → σ (valueVariable d i (x i)) ≡ true
   pub satisfies : Satisfies σ cs
 
 -- the two settings are the same on every variable from 1 to V
