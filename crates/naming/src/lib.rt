@@ -101,7 +101,7 @@ fn search_again(
         if note(
             marks,
             values,
-            cnf::variable_of(literal) as usize,
+            variable::variable_of(literal) as usize,
             mark_of(literal),
         ) {
             return Found::At(k);

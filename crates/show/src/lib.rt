@@ -35,7 +35,7 @@ fn say_word(word: i32) {
     if word < 0 {
         say(b"-");
     }
-    say_number(cnf::variable_of(word) as u64);
+    say_number(variable::variable_of(word) as u64);
 }
 
 // The words from `from` up to `to`, or to the end of the list.

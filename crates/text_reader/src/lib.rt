@@ -130,7 +130,7 @@ pub fn read_text(text: &[u8], out: &mut [i32]) -> ReadAnswer
     if !header.formed {
         return refused(Refusal::HEADER, header.start);
     }
-    if cnf::too_many(header.variables, header.clauses) {
+    if limits::too_many(header.variables, header.clauses) {
         return refused(Refusal::CLAUSE_LIMIT, header.start);
     }
     read_tokens(

@@ -1,5 +1,6 @@
 // The first pass of writing clause text: a word list is checked, and its text measured. Assumes nothing.
-use cnf::Tally;
+use limits::MAX_VARIABLES;
+use limits::MAX_WORDS;
 use refusal::Refusal;
 use refusal::Verdict;
 ghost use mathlib.Core.Path.{_≡_};
@@ -93,14 +94,14 @@ fn refuse(number: u32, place: usize) -> Measured
 pub fn measure_words(variables: u32, words: &[i32]) -> Measured
     ensures { λ r. ⌜ WordsMeasured variables (now (words .entry)) r ⌝ }
 {
-    if Tally::MAX_VARIABLES < variables {
+    if MAX_VARIABLES < variables {
         return refuse(Refusal::CLAUSE_LIMIT, 0);
     }
-    if Tally::MAX_WORDS < words.len() {
+    if MAX_WORDS < words.len() {
         return refuse(Refusal::CLAUSE_LIMIT, 0);
     }
     let survey = survey_words(words, variables);
-    let checked = cnf::check_counted(variables, words, survey.zeros, survey.beyond != 0);
+    let checked = word_check::check_counted(variables, words, survey.zeros, survey.beyond != 0);
     match checked {
         Verdict::Refused(r) => Measured::Refused(r),
         Verdict::Passed => Measured::Found(Measure {

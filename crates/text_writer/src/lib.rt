@@ -39,7 +39,7 @@ fn put_word(word: i32, out: &mut [u8], at: usize) -> usize
         return at + 2;
     }
     let from = put_sign(word, out, at);
-    let end = from + decimal_pairs::write_often(cnf::variable_of(word), out, from);
+    let end = from + decimal_pairs::write_often(variable::variable_of(word), out, from);
     out[end] = b' ';
     end + 1
 }

@@ -1,4 +1,4 @@
--- `cnf::is_beyond` meets its contract: the word is compared as it is, and only V is negated. Assumes nothing.
+-- `word_check::is_beyond` meets its contract: the word is compared as it is, and only V is negated. Assumes nothing.
 use mathlib.Core.Path.{sym}
 use Prim.Native.Nat.{_<_, _^_}
 use native.Mathlib.Omega.{arith}
@@ -8,8 +8,8 @@ use borrow.Author.Tests.{le-ltb}
 use mir.Syntax.{w32}
 use mir.ValLaws.{toZ-ofZ}
 use Rattle.lists.proofs.SignedLaws.{as-word, fits-less, minus-back, fits-abs, beyond-above, beyond-below}
-use Rattle.cnf.proofs.is_beyond.Statement.{statement}
-use Rattle.cnf.proofs.is_beyond.Tie as tie
+use Rattle.word_check.proofs.is_beyond.Statement.{statement}
+use Rattle.word_check.proofs.is_beyond.Tie as tie
 
 small : (c : tie.Else1) → c .before .args .variables < 2 ^ 31
 small c = omega (arith, c .if1 .left)

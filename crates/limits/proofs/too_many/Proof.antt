@@ -1,8 +1,8 @@
--- `cnf::too_many` meets its contract. Assumes nothing.
+-- `limits::too_many` meets its contract. Assumes nothing.
 use borrow.Author.Needs.{needs}
 use borrow.Author.Tests.{lt-ltb, le-ltb}
-use Rattle.cnf.proofs.too_many.Statement.{statement}
-use Rattle.cnf.proofs.too_many.Tie as tie
+use Rattle.limits.proofs.too_many.Statement.{statement}
+use Rattle.limits.proofs.too_many.Tie as tie
 
 pub too-many-spec : {M : Type 1} → statement M
 too-many-spec =

@@ -1,4 +1,4 @@
--- `cnf::check_literals` meets its contract: number 14, and then 15. Assumes nothing.
+-- `word_check::check_literals` meets its contract: number 14, and then 15. Assumes nothing.
 use mathlib.Core.Path.{_≡_}
 use mathlib.Core.Bool.{cond}
 use mathlib.Core.List.{[], _∷_}
@@ -8,12 +8,12 @@ use Rattle.lists.specs.First.{first}
 use Rattle.lists.specs.declared.Found.the-variants.{Nothing}
 use Rattle.refusal.specs.Rules.{rule, chain}
 use Rattle.refusal.proofs.RulesLaws.{refuses, passes}
 use Rattle.cnf.specs.Lent.{beyondAt, literalRules}
-use Rattle.cnf.proofs.check_literals.Statement.{statement}
-use Rattle.cnf.proofs.check_literals.Tie as tie
+use Rattle.word_check.proofs.check_literals.Statement.{statement}
+use Rattle.word_check.proofs.check_literals.Tie as tie
 
 said-14 : (c : tie.After-verdict-of) → let s = c .before .before .args in c .verdict-of .result ≡ chain (rule 14 (cond (s .some) (first (beyondAt (s .variables) (s .words .now)) (length (s .words .now))) Nothing) ∷ [])
-said-14 c = rw (← (c .before .search-beyond .ensures)) (c .verdict-of .ensures)
+said-14 c = rw (← (c .before .first-beyond .ensures)) (c .verdict-of .ensures)
 
 returns : tie.Need-returns
 unfolding literalRules

@@ -1,4 +1,4 @@
--- `cnf::variable_of` meets its contract: what is negated is one nearer to 0 than the literal, and so fits. Assumes nothing.
+-- `variable::variable_of` meets its contract: what is negated is one nearer to 0 than the literal, and so fits. Assumes nothing.
 use mathlib.Core.Path.{_≡_, sym, _∙_, ap, subst}
 use mathlib.Core.Bool.{true, false}
 use Prim.Native.Nat.{_-_, _<_, _^_}
@@ -9,8 +9,8 @@ use mir.Val.{SFits, toZ, ofZ}
 use mir.ValLaws.{toZ-ofZ}
 use Rattle.lists.specs.Signed.{isNegative}
 use Rattle.lists.proofs.SignedLaws.{minus-fits, neg-is, neg-next, neg-some, turned, plus-abs, plus-small, fits-of, cast-of, fits-abs}
-use Rattle.cnf.proofs.variable_of.Statement.{statement}
-use Rattle.cnf.proofs.variable_of.Tie as tie
+use Rattle.variable.proofs.variable_of.Statement.{statement}
+use Rattle.variable.proofs.variable_of.Tie as tie
 
 back : (s : tie.Start) → toZ w32 (ofZ w32 (s .args .literal)) ≡ s .args .literal
 back s = toZ-ofZ w32 _ (s .fits .literal)

@@ -1,12 +1,12 @@
--- `cnf::check_counted` meets its contract: number 16 by any of its limits, and then 14 and 15. Assumes nothing.
+-- `word_check::check_counted` meets its contract: number 16 by any of its limits, and then 14 and 15. Assumes nothing.
 use mathlib.Core.Path.{_≡_, sym, _∙_}
 use mathlib.Core.Bool.{Bool, true, false, _||_}
 use borrow.Author.Needs.{needs}
 use borrow.Author.Tests.{lt-ltb, le-ltb}
 use Rattle.refusal.proofs.RulesLaws.{tested, not-tested}
 use Rattle.cnf.specs.Lent.{countedRules}
-use Rattle.cnf.proofs.check_counted.Statement.{statement}
-use Rattle.cnf.proofs.check_counted.Tie as tie
+use Rattle.word_check.proofs.check_counted.Statement.{statement}
+use Rattle.word_check.proofs.check_counted.Tie as tie
 
 -- the one limit is passed; or what the other says
 first-is : {a : Bool} (b : Bool) → a ≡ true → (a || b) ≡ true
