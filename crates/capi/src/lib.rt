@@ -46,7 +46,7 @@ pub extern "C" fn bb_judge(
     if answer.len() < ENTRIES {
         return;
     }
-    let judged = judge::judge(domains, layers, targets, build);
+    let judged = build_judge::judge(domains, layers, targets, build);
     diagram_answers::post_judge(answer, judged);
 }
 
@@ -64,7 +64,7 @@ pub extern "C" fn bb_model(
     if answer.len() < ENTRIES {
         return;
     }
-    let read = model::read_model(domains, layers, targets, literals, out);
+    let read = model_reader::read_model(domains, layers, targets, literals, out);
     diagram_answers::post_model(answer, read);
 }
 

@@ -170,7 +170,7 @@ pub fn judge(
     marks: &mut [i32],
     differ: &mut usize,
 ) -> Verdict {
-    let answer = judge::judge(domains, layers, targets, build);
+    let answer = build_judge::judge(domains, layers, targets, build);
     let outcome = answer.outcome;
     let came = verdict_of(outcome);
     let right = second::builds::judge(domains, layers, targets, build, marks);

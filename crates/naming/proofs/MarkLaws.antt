@@ -16,7 +16,7 @@ use Rattle.lists.specs.Signed.{beyond}
 use Rattle.lists.proofs.UptoLaws.{list-singles, list-at}
 use Rattle.lists.proofs.FirstLaws.{none-bad, bad-none, on-none, count-none}
 use Rattle.literals.specs.Literals.{literal, variable}
-use Rattle.naming.specs.Naming.{markOf, mark, again, marksOf}
+use Rattle.naming.specs.Naming.{markOf, mark, again, markAt, marksOf}
 use Rattle.naming.specs.Marks.{valueAt, isMarked, noted, Marks, NotedTo}
 
 -- before the first literal there are none
@@ -97,23 +97,24 @@ noted-past D m a e {ms} l h count w = let q : a + (e - a) ≡ e = omega arith in
 -- ---- the marks that the whole model leaves
 
 module _ (D : ℕ) (m : List ℤ) where
-  abbrev entry : ℕ → ℕ
-  entry u = cond (ltb u D) (mark m (length m) (suc u)) 0
+  mark-is : {ms : List ℕ} → Marks D m (length m) ms → (u : ℕ) → u < 2048 → getD ms u 0 ≡ markAt D m u
+  unfolding markAt
+  mark-is {ms} w u l = go (ltb u D) refl
+    where
+      go : (b : Bool) → ltb u D ≡ b → getD ms u 0 ≡ cond b (mark m (length m) (suc u)) 0
+      go true e = w .said u (ltb-true u D e)
+      go false e = w .rest u (ltb-false u D e) l
 
   -- they are no others than these
   pub marks-whole : {ms : List ℕ} → Marks D m (length m) ms → ms ≡ marksOf D m
   unfolding marksOf
-  marks-whole {ms} w = ext-getD 0 ms (upTo 2048 (λ u. entry u ∷ [])) (w .whole ∙ sym (list-singles 2048 entry)) (λ u h. let l : u < 2048 = omega (arith, w .whole) in go u l (ltb u D) refl ∙ sym (list-at 0 entry 2048 u l))
-    where
-      go : (u : ℕ) → u < 2048 → (b : Bool) → ltb u D ≡ b → getD ms u 0 ≡ cond b (mark m (length m) (suc u)) 0
-      go u l true e = w .said u (ltb-true u D e)
-      go u l false e = w .rest u (ltb-false u D e) l
+  marks-whole {ms} w = ext-getD 0 ms (upTo 2048 (λ u. markAt D m u ∷ [])) (w .whole ∙ sym (list-singles 2048 (markAt D m))) (λ u h. let l : u < 2048 = omega (arith, w .whole) in mark-is w u l ∙ sym (list-at 0 (markAt D m) 2048 u l))
 
   pub marks-of : D ≤ 2048 → Marks D m (length m) (marksOf D m)
-  unfolding marksOf
+  unfolding marksOf markAt
   marks-of small =
       record {
-        whole = list-singles 2048 entry;
-        said = λ u h. list-at 0 entry 2048 u (omega arith) ∙ rw (lt-ltb u D h);
-        rest = λ u h l. list-at 0 entry 2048 u l ∙ rw (le-ltb u D h);
+        whole = list-singles 2048 (markAt D m);
+        said = λ u h. list-at 0 (markAt D m) 2048 u (omega arith) ∙ rw (lt-ltb u D h);
+        rest = λ u h l. list-at 0 (markAt D m) 2048 u l ∙ rw (le-ltb u D h);
       }

@@ -31,9 +31,13 @@ again D m k = leb (variable m k) D && not (eqb (mark m k (variable m k)) 0)
 unfoldable pub namingRules : ℕ → ℕ → List ℤ → List Rule
 namingRules last D m = rule 10 (first (badAt last m) (length m)) ∷ rule 11 (first (again D m) (length m)) ∷ []
 
--- 2,048 marks, the first variable's first: what the model says of the variables up to D, and 0 for those beyond
+-- the mark of the variable u + 1: what the model says of it where it is one up to D, and 0 beyond
+unfoldable pub markAt : ℕ → List ℤ → ℕ → ℕ
+markAt D m u = cond (ltb u D) (mark m (length m) (suc u)) 0
+
+-- 2,048 marks, the first variable's first
 unfoldable pub marksOf : ℕ → List ℤ → List ℕ
-marksOf D m = upTo 2048 (λ u. cond (ltb u D) (mark m (length m) (suc u)) 0 ∷ [])
+marksOf D m = upTo 2048 (λ u. markAt D m u ∷ [])
 
 -- the first refusal that is due, with no mark given; or else the marks
 abbrev pub readBy : List Rule → List ℕ → NamesRead

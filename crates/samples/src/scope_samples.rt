@@ -329,7 +329,7 @@ fn tell_built(before: &[u8], b: Built) {
 // Reads a model of S1 into a list of two sevens.
 fn came_of(literals: &[i32]) -> Built {
     let mut out = [7u32; 2];
-    let answer = model::read_model(&[2], &[1], &[0, 1], literals, &mut out);
+    let answer = model_reader::read_model(&[2], &[1], &[0, 1], literals, &mut out);
     let outcome = answer.outcome;
     built_of(outcome, &out)
 }
