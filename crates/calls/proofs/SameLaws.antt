@@ -17,7 +17,7 @@ use Rattle.diagram.specs.declared.CheckAnswer.{CheckAnswer}
 use Rattle.judge.specs.Promise.{judgeSaid, JudgePromise}
 use Rattle.judge.specs.declared.JudgeAnswer.{JudgeAnswer}
 use Rattle.clauses.specs.Clauses.{edition1}
-use Rattle.encoder.specs.Promise.{EncodePromise}
+use Rattle.encoding.specs.Promise.{EncodePromise}
 use Rattle.model.specs.Promise.{modelSaid, ModelPromise}
 use Rattle.model.specs.declared.ModelAnswer.{ModelAnswer}
 use Rattle.dimacs.specs.Write.{writtenSaid, WritePromise}

@@ -16,7 +16,7 @@ use Rattle.diagram.specs.Rules.{checkRules}
 use Rattle.judge.specs.Build.{judgeRules}
 use Rattle.judge.specs.Promise.{allowsTest}
 use Rattle.clauses.specs.Clauses.{edition1, clauses, lastVariable}
-use Rattle.encoder.specs.Promise.{encodeRules}
+use Rattle.encoding.specs.Promise.{encodeRules}
 use Rattle.model.specs.Rules.{buildOf, modelRules}
 use Rattle.dimacs.specs.Text.{textOf}
 use Rattle.dimacs.specs.Write.{writeRules}

@@ -2,7 +2,7 @@
 use Rattle.clauses.specs.Clauses.{edition1}
 use Rattle.diagram.proofs.CheckLaws.{check-exactly-when}
 use Rattle.judge.proofs.JudgeLaws.{judge-exactly-when}
-use Rattle.encoder.proofs.EncodeLaws.{encode-exactly-when, encode-keeps}
+use Rattle.encoding.proofs.EncodeLaws.{encode-exactly-when, encode-keeps}
 use Rattle.model.proofs.ModelLaws.{model-exactly-when, model-keeps}
 use Rattle.dimacs.proofs.WriteLaws.{write-exactly-when, write-keeps}
 use Rattle.dimacs.proofs.ReadLaws.{read-exactly-when, read-keeps}

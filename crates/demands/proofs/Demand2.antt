@@ -17,11 +17,11 @@ use Rattle.cnf.specs.declared.EncodeAnswer.{EncodeAnswer}
 use Rattle.cnf.proofs.EncodedLaws.{written-list}
 use Rattle.clauses.specs.Clauses.{Edition, pairCount, clauses, lastVariable}
 use Rattle.clauses.specs.Editions.{OwnVariables}
-use Rattle.encoder.specs.Promise.{encodeRules, EncodePromise}
+use Rattle.encoding.specs.Promise.{encodeRules, EncodePromise}
 use Rattle.clauses.proofs.Edition1.{pair-twice}
 use Rattle.clauses.proofs.Edition1Sizes.{clause-count, word-count, last-variable, clauses-most, words-most, variables-most}
 use Rattle.clauses.proofs.LiteralLaws.{literal-within, closed-list, zeros-list, clauses-back, word-within}
-use Rattle.encoder.proofs.EncodeLaws.{encode-written}
+use Rattle.encoding.proofs.EncodeLaws.{encode-written}
 use Rattle.demands.specs.Demand2.{ExactlyTheList, Counts, Numbers, Maxima, largest, WellFormed}
 use Rattle.demands.proofs.Flat.{Flat, flat-sound, flat-clauses, flat-words, flat-variables}
 

@@ -15,7 +15,7 @@ use Rattle.clauses.proofs.Decided.{arrives, taken}
 use Rattle.clauses.proofs.Satisfied.{clauses-meant}
 use Rattle.clauses.proofs.LiteralLaws.{clauses-back}
 use Rattle.clauses.proofs.Edition1.{edition1-one, edition1-own}
-use Rattle.encoder.proofs.EncodeLaws.{encode-written}
+use Rattle.encoding.proofs.EncodeLaws.{encode-written}
 use Rattle.demands.specs.Demand3.{Meaning, Demand3}
 use Rattle.demands.specs.HalfFinished.{ruled-out}
 use Rattle.demands.proofs.Demand2.{exactly-the-list}

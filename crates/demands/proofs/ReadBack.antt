@@ -20,7 +20,7 @@ use Rattle.clauses.specs.Clauses.{Edition, edition1, lastVariable}
 use Rattle.clauses.specs.Editions.{ExactlyOne, OwnVariables}
 use Rattle.clauses.proofs.VariableLaws.{value-within}
 use Rattle.clauses.proofs.Edition1.{edition1-one, edition1-own}
-use Rattle.encoder.proofs.EncodeLaws.{encode-written}
+use Rattle.encoding.proofs.EncodeLaws.{encode-written}
 use Rattle.literals.specs.Literals.{literal, variable}
 use Rattle.model.specs.Model.{Named, NamedTrue, BuildOf, ReadsAs}
 use Rattle.model.specs.Promise.{ModelPromise}

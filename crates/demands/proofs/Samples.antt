@@ -10,7 +10,7 @@ use Rattle.diagram.specs.Lent.{firstEdge, step, walk}
 use Rattle.diagram.specs.Numbers.{firstValue}
 use Rattle.diagram.specs.Rules.{badLayer, permits, owner, badTarget, optionRules, nodeRules, targetRules, checkRules}
 use Rattle.clauses.specs.Clauses.{firstHelper, clauses}
-use Rattle.encoder.specs.Promise.{encodeRules}
+use Rattle.encoding.specs.Promise.{encodeRules}
 use Rattle.naming.specs.Naming.{mark, again, namingRules}
 use Rattle.model.specs.Rules.{unclear, valueOf, valueRules, literalRules, soundRules, modelRules}
 use Rattle.demands.specs.Samples.{Holds, samples}

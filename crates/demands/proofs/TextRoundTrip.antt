@@ -22,7 +22,7 @@ use Rattle.clauses.specs.Clauses.{Edition, edition1, lastVariable, clauses}
 use Rattle.clauses.specs.Editions.{OwnVariables}
 use Rattle.clauses.proofs.Edition1.{edition1-own}
 use Rattle.clauses.proofs.WellListed.{in-range, well-listed, edition1-limits}
-use Rattle.encoder.specs.Promise.{encodeRules, EncodePromise}
+use Rattle.encoding.specs.Promise.{encodeRules, EncodePromise}
 use Rattle.dimacs.specs.Text.{body, headerLine, textOf}
 use Rattle.dimacs.specs.Write.{WritePromise}
 use Rattle.dimacs.specs.Read.{tallyRead}

@@ -19,7 +19,7 @@ use Rattle.judge.specs.Promise.{JudgePromise}
 use Rattle.judge.specs.declared.Judged.the-variants as judged
 use Rattle.judge.specs.declared.JudgeAnswer.{JudgeAnswer}
 use Rattle.clauses.specs.Clauses.{edition1}
-use Rattle.encoder.specs.Promise.{encodeTable, EncodePromise}
+use Rattle.encoding.specs.Promise.{encodeTable, EncodePromise}
 use Rattle.model.specs.Model.{modelTable}
 use Rattle.model.specs.Promise.{ModelPromise}
 use Rattle.model.specs.declared.ModelRead.the-variants as model

@@ -20,7 +20,7 @@ use Rattle.cnf.specs.declared.Encoded.the-variants.{Written}
 use Rattle.cnf.specs.declared.EncodeAnswer.{EncodeAnswer}
 use Rattle.clauses.specs.Variables.{valueVariable, referenceVariable, edgeVariable}
 use Rattle.clauses.specs.Clauses.{Edition, edition1, lastVariable, clauses}
-use Rattle.encoder.specs.Promise.{EncodePromise}
+use Rattle.encoding.specs.Promise.{EncodePromise}
 use Rattle.dimacs.specs.Text.{headerLine, textOf, linesOf, TextByte}
 use Rattle.dimacs.specs.Write.{WritePromise}
 use Rattle.dimacs.specs.Read.{ReadPromise}

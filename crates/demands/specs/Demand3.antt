@@ -23,7 +23,7 @@ use Rattle.judge.specs.declared.Judged.the-variants.{Allowed, NotAllowed}
 use Rattle.judge.specs.declared.JudgeAnswer.{JudgeAnswer}
 use Rattle.clauses.specs.Variables.{valueVariable}
 use Rattle.clauses.specs.Clauses.{Edition, lastVariable, optionClauses, clauses}
-use Rattle.encoder.specs.Promise.{EncodePromise}
+use Rattle.encoding.specs.Promise.{EncodePromise}
 use Rattle.demands.specs.HalfFinished.{Order, OrderLiteral, HalfFinished}
 
 -- ---- words, for a build that gives option i the value x i

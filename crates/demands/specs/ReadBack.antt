@@ -19,7 +19,7 @@ use Rattle.diagram.specs.Sound.{Sound}
 use Rattle.judge.specs.Build.{Fits}
 use Rattle.clauses.specs.Variables.{valueVariable}
 use Rattle.clauses.specs.Clauses.{Edition, lastVariable, clauses}
-use Rattle.encoder.specs.Promise.{EncodePromise}
+use Rattle.encoding.specs.Promise.{EncodePromise}
 use Rattle.model.specs.Model.{Named, WellNamed, BuildOf}
 use Rattle.model.specs.Promise.{ModelPromise}
 use Rattle.model.specs.declared.ModelRead.the-variants.{Built}

@@ -12,7 +12,7 @@ use Rattle.diagram.specs.Lent.{Lent, lent, options}
 use Rattle.diagram.specs.Rules.{checkRules}
 use Rattle.judge.specs.Promise.{allowsTest}
 use Rattle.clauses.specs.Clauses.{edition1, lastVariable, clauses}
-use Rattle.encoder.specs.Promise.{encodeRules}
+use Rattle.encoding.specs.Promise.{encodeRules}
 use Rattle.model.specs.Rules.{buildOf, modelRules}
 
 pub data Sample : Type 0 where

@@ -21,7 +21,7 @@ use Rattle.refusal.proofs.RoomLaws.{room-faithful, long-enough}
 use Rattle.refusal.proofs.AnsweredLaws.{Told, told}
 use Rattle.clauses.proofs.WellListed.{edition1-listed}
 use Rattle.dimacs.proofs.WriterLaws.{text-most}
-use Rattle.encoder.proofs.EncodeLaws.{encode-faithful, all-passed}
+use Rattle.encoding.proofs.EncodeLaws.{encode-faithful, all-passed}
 use Rattle.diagram_file.specs.File.{fileDiagram}
 use Rattle.diagram_file.specs.Rules.{fileRules}
 use Rattle.diagram_file.proofs.FileLaws.{file-faithful}

@@ -27,8 +27,8 @@ use Rattle.cnf.proofs.EncodedLaws.{written-list}
 use Rattle.diagram.specs.Lent.{Lent, lent}
 use Rattle.clauses.specs.Clauses.{edition1, clauses, lastVariable}
 use Rattle.clauses.proofs.WellListed.{edition1-listed}
-use Rattle.encoder.specs.Promise.{encodeRules, EncodePromise}
-use Rattle.encoder.proofs.EncodeLaws.{all-passed, encode-written}
+use Rattle.encoding.specs.Promise.{encodeRules, EncodePromise}
+use Rattle.encoding.proofs.EncodeLaws.{all-passed, encode-written}
 use Rattle.dimacs.specs.Text.{textOf}
 use Rattle.dimacs.specs.Write.{writtenSaid, WritePromise}
 use Rattle.dimacs.specs.declared.TextWritten.{TextWritten}

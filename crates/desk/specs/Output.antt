@@ -20,7 +20,7 @@ use Rattle.diagram_file.specs.File.{fileDiagram}
 use Rattle.diagram_file.specs.Rules.{fileRules, fileTable}
 use Rattle.diagram_file.specs.Promise.{sizes}
 use Rattle.diagram_file.specs.declared.Sizes.{Sizes}
-use Rattle.encoder.specs.Promise.{encodeRules, encodeTable}
+use Rattle.encoding.specs.Promise.{encodeRules, encodeTable}
 
 -- the program's limits: bytes that are read, options, nodes and edges, words
 abbrev pub mostBytes : ℕ

@@ -1,3 +1,2 @@
 -- The laws of this crate that others cite. Assumes nothing.
 pub mod EmitLaws
-pub mod EncodeLaws

@@ -18,7 +18,7 @@ ghost use Rattle.diagram.specs.Sound.{Sound};
 ghost use Rattle.diagram.specs.Promise.{countsOf};
 ghost use Rattle.diagram.specs.Numbers.{firstValue};
 ghost use Rattle.clauses.specs.Clauses.{edition1, nodeClauses, optionClauses, clauses, lastVariable};
-ghost use Rattle.encoder.specs.Promise.{needed, EncodePromise};
+ghost use Rattle.encoding.specs.Promise.{needed, EncodePromise};
 
 // ---- all options
 

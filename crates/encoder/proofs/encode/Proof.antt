@@ -4,7 +4,7 @@ use Rattle.cnf.proofs.EncodedLaws.{encode-refuses, encode-goes-on}
 use Rattle.diagram.specs.Lent.{Lent, lent}
 use Rattle.diagram.specs.Rules.{checkRules}
 use Rattle.diagram.proofs.CheckLaws.{answer-refused, answer-sound, sound-exactly}
-use Rattle.encoder.specs.Promise.{encodeRules}
+use Rattle.encoding.specs.Promise.{encodeRules}
 use Rattle.encoder.proofs.encode.Statement.{statement}
 use Rattle.encoder.proofs.encode.Tie as tie
 

@@ -10,7 +10,7 @@ use Rattle.diagram.specs.declared.Diagram.{Diagram}
 use Rattle.clauses.specs.Clauses.{edition1, clauses, lastVariable}
 use Rattle.sizes.specs.Tallied.{tallied}
 use Rattle.sizes.proofs.TallyLaws.{own-tally}
-use Rattle.encoder.specs.Promise.{needed}
+use Rattle.encoding.specs.Promise.{needed}
 use Rattle.encoder.proofs.encode_sound.Statement.{statement}
 use Rattle.encoder.proofs.encode_sound.Tie as tie
 

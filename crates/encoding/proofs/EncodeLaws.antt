@@ -23,7 +23,7 @@ use Rattle.diagram.specs.Sound.{Sound, checkTable}
 use Rattle.diagram.specs.Rules.{checkRules}
 use Rattle.diagram.proofs.SoundLaws.{check-faithful, passed-sound, sound-passed}
 use Rattle.clauses.specs.Clauses.{Edition, clauses, lastVariable}
-use Rattle.encoder.specs.Promise.{needed, encodeTable, encodeRules, EncodePromise}
+use Rattle.encoding.specs.Promise.{needed, encodeTable, encodeRules, EncodePromise}
 
 module _ (e : Edition) (d : Lent) where
   pub encode-faithful : (room : ℕ) → Faithful (encodeRules e d room) (encodeTable e d room)
@@ -40,11 +40,11 @@ module _ (e : Edition) (d : Lent) where
   module _ (before : List ℤ) (answer : EncodeAnswer) (after : List ℤ) (promise : EncodePromise e d before answer after) where
     -- each number from 1 to 7 is given exactly when its row is due and none before it is
     pub encode-exactly-when : ExactlyWhen (encodeTable e d (length before)) (λ r. answer .outcome ≡ Refused r)
-    encode-exactly-when = encoded-exactly-when (clauses e d) (lastVariable e d) before (encodeRules e d (length before)) answer after promise (encodeTable e d (length before)) (encode-faithful (length before))
+    encode-exactly-when = encoded-exactly-when _ _ before (encodeRules e d (length before)) answer after promise (encodeTable e d (length before)) (encode-faithful (length before))
 
     -- a refusal keeps the buffer
     pub encode-keeps : (r : Refusal) → answer .outcome ≡ Refused r → after ≡ before
-    encode-keeps = encoded-keeps (clauses e d) (lastVariable e d) before (encodeRules e d (length before)) answer after promise
+    encode-keeps = encoded-keeps _ _ before (encodeRules e d (length before)) answer after promise
 
     -- "written" is answered with counts exactly when the diagram is sound, its words fit, and the counts are its own
     pub encode-written : (t : Tally) → (answer .outcome ≡ Written t) ↔ ((Sound d × (needed e d ≤ length before)) × (t ≡ tallyOf (clauses e d) (lastVariable e d)))
