@@ -1,3 +1,2 @@
--- The laws of this crate. Assumes nothing.
-pub mod HasLaws
+-- The laws of this crate that others cite. Assumes nothing.
 pub mod ReadLaws

@@ -1,23 +1,18 @@
--- Laws of reading digit by digit: any number, with a cut, and up to eight digits without one. Assumes nothing.
+-- Laws of reading digit by digit, with a cut. Assumes nothing.
 use mathlib.Core.Path.{_≡_, refl, sym, ap, _∙_}
 use mathlib.Core.Bool.{Bool, true}
 use mathlib.Core.List.{List, [], _∷_}
-use Prim.Native.Nat.{ℕ, _+_, _-_, _*_, _^_, _≤_, _<_}
-use native.Mathlib.Nat.{add-zero, pow-suc, pow-le-pow-right}
-use native.Mathlib.Numerals.{add-one}
+use Prim.Native.Nat.{ℕ, _+_, _-_, _*_, _≤_, _<_}
 use native.Mathlib.Omega.{arith}
 use lib.ListN.{length, getD, drop}
 use Rattle.decimal.specs.Digits.{isDigit, valueFrom, value}
 use Rattle.decimal.specs.Reading.{run, cut}
 use Rattle.decimal.specs.declared.Reading.{Reading}
-use Rattle.decimal.proofs.DigitsLaws.{digit-range}
 use Rattle.decimal.proofs.RunLaws.{run-more}
 
 -- a reading, field by field
 pub reading-same : {g g′ : Bool} {v v′ e e′ : ℕ} → g ≡ g′ → v ≡ v′ → e ≡ e′ → _≡_ {A = Reading} (record { good = g; value = v; end = e }) (record { good = g′; value = v′; end = e′ })
 reading-same p q r = rw (p, q, r)
-
--- ---- any number
 
 -- a number that was cut stays cut, whatever digits follow
 cut-from : (v : ℕ) (bs : List ℕ) → cut (valueFrom (cut v) bs) ≡ cut (valueFrom v bs)
@@ -50,28 +45,3 @@ module _ (s : List ℕ) (at v i : ℕ) (k : Came s at v i) where
   pub came-all : run (drop i s) ≡ [] → (v ≡ cut (value (run (drop at s)))) × (i ≡ at + length (run (drop at s)))
   unfolding valueFrom
   came-all e = let m = k .small in (sym (k .says ∙ rw e (omega arith)), sym (k .ends ∙ rw e (omega arith)))
-
--- ---- up to eight digits
-
--- k digits say less than 10 ^ k
-pub record Few (s : List ℕ) (at v k : ℕ) : Type 0 where
-  pub count : k ≤ 8
-  pub less : v < 10 ^ k
-  pub came : Came s at v (at + k)
-
-pub few-none : (s : List ℕ) (at : ℕ) → Few s at 0 0
-few-none s at = record { count = omega arith; less = omega arith; came = rw (add-zero at) (came-none s at) }
-
-pub few-small : {s : List ℕ} {at v k : ℕ} → Few s at v k → v < 100000000
-few-small {k = k} f = omega (arith, f .less, pow-le-pow-right {n = 10} (omega arith) (f .count))
-
-pub few-more : (s : List ℕ) (at v k : ℕ) → Few s at v k → k < 8 → at + k < length s → isDigit (getD s (at + k) 0) ≡ true → Few s at (v * 10 + (getD s (at + k) 0 - 48)) (k + 1)
-few-more s at v k f h l d =
-    let r = digit-range (getD s (at + k) 0) d in
-    let m = few-small f in
-    let e : at + k + 1 ≡ at + (k + 1) = omega arith in
-    record {
-      count = omega arith;
-      less = rw (add-one k) (omega (arith, f .less, pow-suc 10 k));
-      came = rw e at (came-more s at v (at + k) (f .came) (v * 10 + (getD s (at + k) 0 - 48)) l d (omega arith));
-    }

@@ -74,11 +74,11 @@ fn read_line(text: &[u8], at: usize, key: &[u8]) -> Line
     requires { ⌜ at ≤ length (now text) ⌝ }
     ensures { λ r. ⌜ LineRead (now (text .entry)) (now (key .entry)) at r ⌝ }
 {
-    if !decimal_reader::has(text, at, key) {
+    if !keys::has(text, at, key) {
         return no_line();
     }
     let read = decimal_reader::read(text, at + key.len());
-    if !decimal_reader::is_field(text, read, b'\n') {
+    if !keys::is_field(text, read, b'\n') {
         return no_line();
     }
     if 4294967295 < read.value {

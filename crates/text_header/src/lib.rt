@@ -54,15 +54,15 @@ pub fn read_header(text: &[u8]) -> Header
     ensures { λ r. ⌜ r ≡ headerOf (now (text .entry)) ⌝ }
 {
     let start = skip_comments(text);
-    if !decimal_reader::has(text, start, &HEAD) {
+    if !keys::has(text, start, &HEAD) {
         return no_header(start);
     }
     let variables = decimal_reader::read(text, start + 6);
-    if !decimal_reader::is_field(text, variables, b' ') {
+    if !keys::is_field(text, variables, b' ') {
         return no_header(start);
     }
     let clauses = decimal_reader::read(text, variables.end + 1);
-    if !decimal_reader::is_field(text, clauses, b'\n') {
+    if !keys::is_field(text, clauses, b'\n') {
         return no_header(start);
     }
     Header {

@@ -50,7 +50,7 @@ fn fill_words(text: &[u8], from: usize, words: usize, out: &mut [i32])
     let mut i = from;
     let mut k: usize = 0;
     while k < words {
-        if text_tokens::is_gap(text[i]) {
+        if gaps::is_gap(text[i]) {
             i += 1;
         } else {
             let word = word_at(text, i);

@@ -14,6 +14,8 @@ use Rattle.cnf.proofs.WordsLaws.{zeros-append, closed-append}
 use Rattle.dimacs.specs.Tokens.{isGap, lead, Token, wordOf, Good, wordsOf}
 use Rattle.dimacs.specs.Rules.{tokenRules, tokensFrom}
 use Rattle.dimacs.proofs.PassLaws.{words-of-append, Behind, over-none, over-gap, over-more, over-all}
+use Rattle.token.specs.declared.Judged.the-variants.{Zero, Literal}
+use Rattle.token.proofs.JudgeLaws.{TokenTold, told-good}
 use Rattle.text_tokens.specs.Passes.{PassedOver}
 use Rattle.text_tokens.specs.declared.Pass.the-variants.{Counted}
 
@@ -70,11 +72,11 @@ module _ (v : ℕ) (text : List ℕ) (from : ℕ) where
 
     -- a 0, and a literal
     module _ (h : i < length text) (g : isGap (getD text i 0) ≡ false) where
-      pub counting-zero : (e : ℕ) → Good v (lead (drop i text)) × (isZero (wordOf (lead (drop i text))) ≡ true) × (e ≡ i + length (lead (drop i text))) → Counting v text from (e + 1) (n + 1) (z + 1) true
-      counting-zero e j = counting-more h g (j .0) true (j .1) e (j .2)
+      pub counting-zero : (e : ℕ) → TokenTold v text i (Zero e) → Counting v text from (e + 1) (n + 1) (z + 1) true
+      counting-zero e t = counting-more h g (told-good v text i (t .0) (t .1)) true (t .2) e (t .3)
 
-      pub counting-literal : (e : ℕ) → Good v (lead (drop i text)) × (isZero (wordOf (lead (drop i text))) ≡ false) × (e ≡ i + length (lead (drop i text))) → Counting v text from (e + 1) (n + 1) z false
-      counting-literal e j = rw (add-zero z) at (counting-more h g (j .0) false (j .1) e (j .2))
+      pub counting-literal : (e : ℕ) → TokenTold v text i (Literal e) → Counting v text from (e + 1) (n + 1) z false
+      counting-literal e t = rw (add-zero z) at (counting-more h g (told-good v text i (t .0) (t .1)) false (t .2) e (t .3))
 
     pub counting-all : length text ≤ i → PassedOver v (tokensFrom text from) (Counted (record { words = n; clauses = z; closed = c }))
     counting-all h =

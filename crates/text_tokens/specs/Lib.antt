@@ -1,3 +1,2 @@
 -- What this crate defines. Assumes nothing.
-pub mod Judged
 pub mod Passes

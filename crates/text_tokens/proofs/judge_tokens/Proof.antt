@@ -1,6 +1,6 @@
 -- `text_tokens::judge_tokens` meets its contract: before each turn the tokens up to i are good, and counted. Assumes
 -- nothing.
-use mathlib.Core.Path.{_≡_, sym, _∙_, subst}
+use mathlib.Core.Path.{_≡_, sym, _∙_}
 use mathlib.Core.Bool.{false}
 use Prim.Native.Nat.{ℕ, _+_, _-_, _≤_}
 use native.Mathlib.Omega.{arith}
@@ -9,9 +9,9 @@ use borrow.Author.Needs.{needs}
 use Rattle.dimacs.specs.Tokens.{isGap, lead}
 use Rattle.dimacs.proofs.TokenLaws.{lead-inside}
 use Rattle.dimacs.proofs.PassLaws.{over-misformed, over-beyond}
-use Rattle.text_tokens.specs.Judged.{TokenJudged}
-use Rattle.text_tokens.specs.declared.Judged.{Judged}
-use Rattle.text_tokens.specs.declared.Judged.the-variants.{Misformed, Beyond, Zero, Literal}
+use Rattle.token.specs.declared.Judged.{Judged}
+use Rattle.token.specs.declared.Judged.the-variants.{Misformed, Beyond, Zero, Literal}
+use Rattle.token.proofs.JudgeLaws.{TokenTold, token-told}
 use Rattle.text_tokens.proofs.CountLaws.{Counting, counting-none, counting-gap, counting-zero, counting-literal, counting-all}
 use Rattle.text_tokens.proofs.judge_tokens.Statement.{statement}
 use Rattle.text_tokens.proofs.judge_tokens.Tie as tie
@@ -26,8 +26,8 @@ no-gap : (c : tie.Else1 Inv-loop μ-loop) → let l = c .before .before .before 
 no-gap c = sym (c .before .is-gap .ensures) ∙ c .if1 .left
 
 -- what the token at i is
-judged : (c : tie.After-judge-token Inv-loop μ-loop) (j : Judged) → c .judge-token .result ≡ j → let l = c .before .before .before .before .before in TokenJudged (l .before .before .args .variables) (l .before .before .args .text .now) (l .loop .i) j
-judged c j e = let l = c .before .before .before .before .before in subst (TokenJudged (l .before .before .args .variables) (l .before .before .args .text .now) (l .loop .i)) e (c .judge-token .ensures)
+judged : (c : tie.After-judge-token Inv-loop μ-loop) (j : Judged) → c .judge-token .result ≡ j → let l = c .before .before .before .before .before in TokenTold (l .before .before .args .variables) (l .before .before .args .text .now) (l .loop .i) j
+judged c j e = let l = c .before .before .before .before .before in token-told (l .before .before .args .variables) (l .before .before .args .text .now) (l .loop .i) j (sym (c .judge-token .ensures) ∙ e)
 
 -- the place past a token lies inside the text, or at its end
 ends : (c : tie.After-judge-token Inv-loop μ-loop) (e : ℕ) → let l = c .before .before .before .before .before in e ≡ l .loop .i + length (lead (drop (l .loop .i) (l .before .before .args .text .now)))
@@ -35,10 +35,10 @@ ends : (c : tie.After-judge-token Inv-loop μ-loop) (e : ℕ) → let l = c .bef
 ends c e q = let l = c .before .before .before .before in (omega (arith, q), omega (arith, q, lead-inside (l .before .before .before .args .text .now) (l .before .loop .i) (l .loop-test .taken)))
 
 -- a word that ends at e: as `Zero` or as `Literal`
-zero : (c : tie.After-end Inv-loop μ-loop) → let l = c .before .before .before .before .before .before .before in TokenJudged (l .before .before .args .variables) (l .before .before .args .text .now) (l .loop .i) (Zero (c .end .given .0 .0))
+zero : (c : tie.After-end Inv-loop μ-loop) → let l = c .before .before .before .before .before .before .before in TokenTold (l .before .before .args .variables) (l .before .before .args .text .now) (l .loop .i) (Zero (c .end .given .0 .0))
 zero c = judged (c .before .before) (Zero (c .end .given .0 .0)) (c .end .given .1)
 
-literal : (c : tie.After-end2 Inv-loop μ-loop) → let l = c .before .before .before .before .before .before .before in TokenJudged (l .before .before .args .variables) (l .before .before .args .text .now) (l .loop .i) (Literal (c .end2 .given .0 .0))
+literal : (c : tie.After-end2 Inv-loop μ-loop) → let l = c .before .before .before .before .before .before .before in TokenTold (l .before .before .args .variables) (l .before .before .args .text .now) (l .loop .i) (Literal (c .end2 .given .0 .0))
 literal c = judged (c .before .before) (Literal (c .end2 .given .0 .0)) (c .end2 .given .1)
 
 pub judge-tokens-spec : {M : Type 1} → statement M
@@ -53,7 +53,7 @@ judge-tokens-spec =
     (λ c. search needs)
     (λ c. search needs)
     (λ c. let l = c .before .before .before in counting-gap _ _ _ _ _ _ _ (l .before .loop .inv) (l .loop-test .taken) (sym (c .before .is-gap .ensures) ∙ c .if1 .taken))
-    (λ c κs. let l = c .before .before .before in (l .loop-test .taken, no-gap c))
+    (λ c κs. search needs)
     (λ c. search needs)
     (λ c κs. search needs)
     (λ c.
@@ -72,12 +72,12 @@ judge-tokens-spec =
     (λ c. search needs)
     (λ c. let l = c .before .before .before .before .before .before .before in record { fits = omega (arith, l .before .loop .inv .less, l .loop-test .taken) })
     (λ c. let l = c .before .before .before .before .before .before .before in record { fits = omega (arith, l .before .loop .inv .less, l .before .loop .inv .fewer, l .loop-test .taken) })
-    (λ c. record { fits = omega (arith, ends (c .before .before .before) _ (zero (c .before) .2)) })
-    (λ c. omega (arith, ends (c .before .before .before) _ (zero (c .before) .2), c .before .before .before .before .before .before .before .loop-test .taken))
+    (λ c. record { fits = omega (arith, ends (c .before .before .before) _ (zero (c .before) .3)) })
+    (λ c. omega (arith, ends (c .before .before .before) _ (zero (c .before) .3), c .before .before .before .before .before .before .before .loop-test .taken))
     (λ c. let l = c .before .before .before .before .before .before .before in counting-zero _ _ _ _ _ _ _ (l .before .loop .inv) (l .loop-test .taken) (no-gap (c .before .before .before .before)) _ (zero (c .before)))
     (λ c. search needs)
     (λ c. let l = c .before .before .before .before .before .before .before in record { fits = omega (arith, l .before .loop .inv .less, l .loop-test .taken) })
-    (λ c. record { fits = omega (arith, ends (c .before .before .before) _ (literal (c .before) .2)) })
-    (λ c. omega (arith, ends (c .before .before .before) _ (literal (c .before) .2), c .before .before .before .before .before .before .before .loop-test .taken))
+    (λ c. record { fits = omega (arith, ends (c .before .before .before) _ (literal (c .before) .3)) })
+    (λ c. omega (arith, ends (c .before .before .before) _ (literal (c .before) .3), c .before .before .before .before .before .before .before .loop-test .taken))
     (λ c. let l = c .before .before .before .before .before .before .before in counting-literal _ _ _ _ _ _ _ (l .before .loop .inv) (l .loop-test .taken) (no-gap (c .before .before .before .before)) _ (literal (c .before)))
     (λ c. counting-all _ _ _ _ _ _ _ (c .before .loop .inv) (c .loop-test .left)))
