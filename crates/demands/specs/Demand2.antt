@@ -9,7 +9,6 @@ use Prim.Native.Nat.{ℕ, _+_, _-_, _*_, _/_, _≤_}
 use lib.IntN.{ℤ, pos, natAbs}
 use lib.ListN.{length, take, drop, replicate}
 use Rattle.lists.specs.Upto.{sumTo}
-use Rattle.lists.specs.Every.{Every}
 use Rattle.cnf.specs.Clause.{Clause, words}
 use Rattle.cnf.specs.Encoded.{tally}
 use Rattle.cnf.specs.Words.{clausesOf, zeros, closed}
@@ -86,7 +85,7 @@ pub record WellFormed (e : Edition) (d : Lent) : Type 0 where
 -- clauses and V, wherever the lent buffers are long enough
 pub record TextRoundTrip (e : Edition) (d : Lent) : Type 0 where
   pub the-text : textOf (lastVariable e d) (words (clauses e d)) ≡ headerLine (lastVariable e d) (length (clauses e d)) ++ linesOf (clauses e d)
-  pub its-bytes : Every TextByte (textOf (lastVariable e d) (words (clauses e d)))
+  pub its-bytes : (b : ℕ) → List·Memᴰ b (textOf (lastVariable e d) (words (clauses e d))) → TextByte b
   pub accepted : (before after : List ℤ) (encoded : EncodeAnswer) (t : Tally) → EncodePromise e d before encoded after → encoded .outcome ≡ Written t
       → (page page′ : List ℕ) (answer : WriteAnswer) → WritePromise (t .variables) (take (t .words) after) page answer page′ → length (textOf (lastVariable e d) (words (clauses e d))) ≤ length page
       → (answer .outcome ≡ text.Written (length (textOf (lastVariable e d) (words (clauses e d))))) × (take (length (textOf (lastVariable e d) (words (clauses e d)))) page′ ≡ textOf (lastVariable e d) (words (clauses e d)))

@@ -22,7 +22,7 @@ use Rattle.cnf.specs.Clause.{Clause, words}
 use Rattle.cnf.specs.Words.{clausesOf, zeros, closed, NoZero, NoZeros}
 use Rattle.cnf.proofs.WordsLaws.{words-clauses, clauses-no-zero}
 use Rattle.cnf.specs.Lent.{word}
-use Rattle.dimacs.specs.Text.{head, space, lineFeed, literalText, wordText, body, headerLine, textOf, lineOf, linesOf, marks, TextByte}
+use Rattle.dimacs.specs.Text.{head, space, lineFeed, minus, literalText, wordText, body, headerLine, textOf, lineOf, linesOf, TextByte}
 use Rattle.dimacs.specs.Tokens.{isGap, ended, tokens, hasMinus, unsigned, formed, wordOf, wordsOf}
 use Rattle.dimacs.specs.Rules.{tokenRules}
 use Rattle.dimacs.proofs.TokenLaws.{NoGap, tokens-gap, tokens-first, digits-no-gap, digits-no-minus}
@@ -128,8 +128,8 @@ lines-of-words ws c = ap body (sym (words-clauses ws c)) ∙ one-line-a-clause (
 
 -- ---- its bytes
 
-mark : (k : ℕ) → k < 7 → TextByte (getD marks k 0)
-mark k h = inr (entry-in 0 marks k h)
+mark : (k : ℕ) → k < 7 → TextByte (getD (space ∷ minus ∷ lineFeed ∷ 112 ∷ 99 ∷ 110 ∷ 102 ∷ []) k 0)
+mark k h = inr (entry-in 0 _ k h)
 
 mark-space : TextByte space
 mark-space = mark 0 (omega arith)

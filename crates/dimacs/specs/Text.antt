@@ -58,9 +58,6 @@ unfoldable pub linesOf : List Clause → List ℕ
 linesOf [] = []
 linesOf (c ∷ cs) = lineOf c ++ linesOf cs
 
--- the bytes that are no digits: a space, a minus, a line feed, and the header's letters `p`, `c`, `n`, `f`
-abbrev pub marks : List ℕ
-marks = space ∷ minus ∷ lineFeed ∷ 112 ∷ 99 ∷ 110 ∷ 102 ∷ []
-
+-- a digit, a space, a minus, a line feed, or one of the header's letters `p`, `c`, `n`, `f`
 abbrev pub TextByte : ℕ → Type 0
-TextByte b = (isDigit b ≡ true) ⊎ List·Memᴰ b marks
+TextByte b = (isDigit b ≡ true) ⊎ List·Memᴰ b (space ∷ minus ∷ lineFeed ∷ 112 ∷ 99 ∷ 110 ∷ 102 ∷ [])
