@@ -1,4 +1,4 @@
--- `diagram_file::read_line` meets its contract: the key, a value, and a line feed. Assumes nothing.
+-- `file_lines::read_line` meets its contract: the key, a value, and a line feed. Assumes nothing.
 use mathlib.Core.Path.{_≡_, sym, _∙_, ap}
 use mathlib.Core.Bool.{true}
 use mathlib.Core.List.{List}
@@ -9,11 +9,11 @@ use borrow.Author.Tests.{not-true, not-false}
 use Rattle.decimal.specs.Bytes.{hasAt}
 use Rattle.decimal.specs.Reading.{fieldAt}
 use Rattle.decimal.specs.declared.Reading.{Reading}
 use Rattle.diagram_file.specs.Lines.{lineFeed, readAfter, formedAt}
 use Rattle.diagram_file.proofs.LineLaws.{formed-inside}
-use Rattle.diagram_file.proofs.PartLaws.{no-value, no-key, no-field, too-much, all-there, key-inside}
-use Rattle.diagram_file.proofs.read_line.Statement.{statement}
-use Rattle.diagram_file.proofs.read_line.Tie as tie
+use Rattle.file_lines.proofs.ReadLaws.{key-inside, no-key, no-field, too-much, all-there, none-read, one-read}
+use Rattle.file_lines.proofs.read_line.Statement.{statement}
+use Rattle.file_lines.proofs.read_line.Tie as tie
 
 abbrev text : tie.After-has → List ℕ
 text c = c .before .before .before .args .text .now
@@ -44,8 +44,8 @@ read-line-spec =
     (tie.spec
     (λ c κs. search needs)
     (λ c κs. search needs)
-    (λ c. let h = c .before .before in no-value (c .no-line .ensures) (no-key (text h) (key h) (at h) (sym (h .has .ensures) ∙ not-true _ (c .before .if1 .taken))))
-    (λ c. record { fits = omega (arith, key-inside (text (c .before)) (key (c .before)) (at (c .before)) (c .before .before .before .before .pre) (begins c)) })
+    (λ c. let h = c .before .before in none-read (text h) (key h) (at h) (c .no-line .ensures) (no-key (text h) (key h) (at h) (sym (h .has .ensures) ∙ not-true _ (c .before .if1 .taken))))
+    (λ c. record { fits = omega (arith, key-inside (text (c .before)) (key (c .before)) (at (c .before)) 18446744073709551615 (search needs) (search needs) (begins c)) })
     (λ c κs. search needs)
     (λ c κs. search needs)
     (λ c κs. search needs)
@@ -53,7 +53,7 @@ read-line-spec =
     let f = c .before .before in
     let r = f .before in
     let h = r .before .before in
-    no-value (c .no-line2 .ensures) (no-field (text h) (key h) (at h) (begins (r .before)) (sym (field f) ∙ not-true _ (c .before .if2 .taken))))
+    none-read (text h) (key h) (at h) (c .no-line2 .ensures) (no-field (text h) (key h) (at h) (begins (r .before)) (sym (field f) ∙ not-true _ (c .before .if2 .taken))))
     (λ c κs. search needs)
     (λ c.
     let t = c .before in
@@ -61,7 +61,7 @@ read-line-spec =
     let f = e .before in
     let r = f .before in
     let h = r .before .before in
-    no-value (c .no-line3 .ensures) (too-much (text h) (key h) (at h) (begins (r .before)) (sym (field f) ∙ not-false _ (e .if2 .left)) (omega (arith, t .if3 .taken, ap (λ (q : Reading). q .value) (r .read .ensures)))))
+    none-read (text h) (key h) (at h) (c .no-line3 .ensures) (too-much (text h) (key h) (at h) (begins (r .before)) (sym (field f) ∙ not-false _ (e .if2 .left)) (omega (arith, t .if3 .taken, ap (λ (q : Reading). q .value) (r .read .ensures)))))
     (λ c. search needs)
     (λ c.
     let e = c .before .before in
@@ -72,9 +72,4 @@ read-line-spec =
     let e = c .before .before in
     let r = e .before .before .before .before in
     let h = r .before .before in
-    let i = formed-inside (text h) (key h) (at h) (formed e) in
-    let ends = ap (λ (q : Reading). q .end) (r .read .ensures) in
-    record {
-      is-formed = sym (formed e);
-      read = λ _. record { gives = ap (λ (q : Reading). q .value) (r .read .ensures); ends = rw ends; inside = omega (arith, i .0, ends); longer = omega (arith, i .1, ends) };
-    }))
+    one-read (text h) (key h) (at h) _ _ (ap (λ (q : Reading). q .value) (r .read .ensures)) (ap (λ (q : Reading). q .end) (r .read .ensures)) (formed e)))

@@ -1,11 +1,11 @@
--- `diagram_file::judge_lines` meets its contract: before each turn the lines passed have the form. Assumes nothing.
+-- `file_judge::judge_lines` meets its contract: before each turn the lines passed have the form. Assumes nothing.
 use Prim.Native.Nat.{_-_, _≤_}
 use native.Mathlib.Omega.{arith}
 use borrow.Author.Needs.{needs}
 use borrow.Author.Tests.{not-true, not-false}
-use Rattle.diagram_file.proofs.PartLaws.{Walking, walk-none, walk-more, walk-stops, walk-all}
-use Rattle.diagram_file.proofs.judge_lines.Statement.{statement}
-use Rattle.diagram_file.proofs.judge_lines.Tie as tie
+use Rattle.file_judge.proofs.PartLaws.{Walking, walk-none, walk-more, walk-stops, walk-all}
+use Rattle.file_judge.proofs.judge_lines.Statement.{statement}
+use Rattle.file_judge.proofs.judge_lines.Tie as tie
 
 abbrev Inv-loop : tie.InvT-loop
 Inv-loop text key count here₀ j₀ here j = (j ≤ count) × Walking text key here₀ here j
@@ -20,13 +20,14 @@ judge-lines-spec =
     Inv-loop
     μ-loop
     (λ c. (omega arith, walk-none (c .before .before .pre .0)))
-    (λ c κs. c .before .loop .inv .1 .stands .inside)
+    (λ c κs. search needs)
     (λ c. let s = c .before .before .before .before .before .loop .inv .1 .stands in record { fits = omega (arith, s .few, s .inside) })
+    (λ c κs. search needs)
     (λ c.
-    let t = c .before in
+    let t = c .before .before in
     let r = t .before .before in
     let l = r .before in
-    walk-stops (l .before .loop .inv .1) (r .read-line .result) (r .read-line .ensures) _ (l .loop-test .taken) (not-true _ (t .if1 .taken)))
+    walk-stops (l .before .loop .inv .1) (r .read-line .result) (r .read-line .ensures) _ (l .loop-test .taken) (not-true _ (t .if1 .taken)) (c .refuse .ensures))
     (λ c. let s = c .before .before .before .before .before .loop .inv .1 .stands in record { fits = omega (arith, s .few, s .inside) })
     (λ c. search needs)
     (λ c. search needs)
