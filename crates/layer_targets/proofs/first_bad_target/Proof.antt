@@ -1,4 +1,4 @@
--- `soundness::first_bad_target` meets its contract: none before a, the first edge of node v, is bad. Assumes nothing.
+-- `layer_targets::first_bad_target` meets its contract: none before a, the first edge of node v, is bad. Assumes nothing.
 use mathlib.Core.Path.{_≡_, sym, _∙_, ap}
 use mathlib.Core.List.{[]}
 use Prim.Native.Nat.{ℕ, _+_, _≤_, _-_}
@@ -13,9 +13,9 @@ use Rattle.diagram.specs.Sound.{Shaped}
 use Rattle.diagram.specs.Rules.{badTarget}
 use Rattle.diagram.proofs.ShapedLaws.{layers-rise, reshaped, same-edges, edge-sums, edges-most}
 use Rattle.diagram.proofs.RangeLaws.{part-length}
-use Rattle.soundness.proofs.LayerLaws.{moves-on, same-range, in-stretch}
-use Rattle.soundness.proofs.first_bad_target.Statement.{statement}
-use Rattle.soundness.proofs.first_bad_target.Tie as tie
+use Rattle.layer_targets.proofs.LayerLaws.{moves-on, same-range, in-stretch}
+use Rattle.layer_targets.proofs.first_bad_target.Statement.{statement}
+use Rattle.layer_targets.proofs.first_bad_target.Tie as tie
 
 abbrev Inv-loop : tie.InvT-loop
 Inv-loop domains layers targets a₀ v₀ a v =

@@ -22,7 +22,7 @@ use Rattle.diagram.specs.Sound.{Shaped}
 use Rattle.diagram.specs.Rules.{permits, owner, badTarget}
 use Rattle.diagram.proofs.ShapedLaws.{layer-within, layers-rise, edge-sums}
 use Rattle.diagram.proofs.RangeLaws.{part-length}
-use Rattle.soundness.specs.Layers.{NoneAbove, LayerEnd, RangeOf}
+use Rattle.layer_targets.specs.Layers.{NoneAbove, LayerEnd, RangeOf}
 
 -- nodes of layers up to i: none yet, and then some more
 pub none-yet : (ls : List ℕ) (from i : ℕ) → from ≤ length ls → NoneAbove ls from i from

@@ -1,4 +1,4 @@
--- `soundness::check_all` meets its contract: the rules are gone through in two parts. Assumes nothing.
+-- `layer_targets::check_all` meets its contract: the rules are gone through in two parts. Assumes nothing.
 use mathlib.Core.Path.{_≡_, refl, sym, _∙_, ap}
 use mathlib.Core.List.{List, []}
 use Prim.Native.Nat.{ℕ}
@@ -8,8 +8,8 @@ use Rattle.refusal.proofs.RulesLaws.{refuses, passes, passed}
 use Rattle.diagram.specs.Lent.{lent}
 use Rattle.diagram.specs.Rules.{badLayer, optionRules, nodeRules, shapeRules, checkRules}
 use Rattle.diagram.proofs.ShapedLaws.{shaped}
-use Rattle.soundness.proofs.check_all.Statement.{statement}
-use Rattle.soundness.proofs.check_all.Tie as tie
+use Rattle.layer_targets.proofs.check_all.Statement.{statement}
+use Rattle.layer_targets.proofs.check_all.Tie as tie
 
 -- the rules of the shape read no targets
 same-shape-rules : (ds ls ts : List ℕ) → shapeRules (lent ds ls []) ≡ shapeRules (lent ds ls ts)

@@ -1,4 +1,4 @@
--- `soundness::edge_count` meets its contract: e is the number of edges of the nodes before w. Assumes nothing.
+-- `layer_targets::edge_count` meets its contract: e is the number of edges of the nodes before w. Assumes nothing.
 use mathlib.Core.Path.{_≡_, sym, _∙_, ap}
 use mathlib.Core.List.{[]}
 use Prim.Native.Nat.{ℕ, _+_, _≤_, _-_}
@@ -7,9 +7,9 @@ use lib.ListN.{length}
 use borrow.Author.Needs.{needs}
 use Rattle.diagram.specs.Lent.{Lent, lent, firstEdge}
 use Rattle.diagram.proofs.ShapedLaws.{layers-rise, edge-sums, edges-most}
-use Rattle.soundness.proofs.LayerLaws.{moves-on}
-use Rattle.soundness.proofs.edge_count.Statement.{statement}
-use Rattle.soundness.proofs.edge_count.Tie as tie
+use Rattle.layer_targets.proofs.LayerLaws.{moves-on}
+use Rattle.layer_targets.proofs.edge_count.Statement.{statement}
+use Rattle.layer_targets.proofs.edge_count.Tie as tie
 
 abbrev Inv-loop : tie.InvT-loop
 Inv-loop domains layers e₀ w₀ e w = (w ≤ length layers) × (e ≡ firstEdge (lent domains layers []) w)

@@ -1,5 +1,5 @@
 -- Where a layer ends, and where its edges may lead, as one range of references: nodes stand in the list in the order of their
--- layers. What the functions inside `check` say to each other. Assumes nothing.
+-- layers. What the functions inside `check_all` say to each other. Assumes nothing.
 use mathlib.Core.Path.{_≡_}
 use mathlib.Core.Bool.{not}
 use mathlib.Core.List.{List}

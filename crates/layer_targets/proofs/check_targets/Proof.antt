@@ -1,4 +1,4 @@
--- `soundness::check_targets` meets its contract. Assumes nothing.
+-- `layer_targets::check_targets` meets its contract. Assumes nothing.
 use mathlib.Core.Path.{_≡_, sym, _∙_, ap}
 use mathlib.Core.Bool.{not}
 use mathlib.Core.List.{[]}
@@ -9,8 +9,8 @@ use Rattle.refusal.proofs.RulesLaws.{tested, not-tested}
 use Rattle.diagram.specs.Lent.{lent, edges}
 use Rattle.diagram.specs.Rules.{targetRules}
 use Rattle.diagram.proofs.ShapedLaws.{reshaped, same-edges}
-use Rattle.soundness.proofs.check_targets.Statement.{statement}
-use Rattle.soundness.proofs.check_targets.Tie as tie
+use Rattle.layer_targets.proofs.check_targets.Statement.{statement}
+use Rattle.layer_targets.proofs.check_targets.Tie as tie
 
 -- the count is the diagram's
 count : (c : tie.After-edge-count) → let s = c .before .before .before .before .args in c .edge-count .result ≡ edges (lent (s .domains .now) (s .layers .now) (s .targets .now))

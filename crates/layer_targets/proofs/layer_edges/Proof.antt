@@ -1,4 +1,4 @@
--- `soundness::layer_edges` meets its contract: the nodes of a layer have as many edges each. Assumes nothing.
+-- `layer_targets::layer_edges` meets its contract: the nodes of a layer have as many edges each. Assumes nothing.
 use mathlib.Core.List.{[]}
 use Prim.Native.Nat.{_-_}
 use native.Mathlib.Omega.{arith}
@@ -6,9 +6,9 @@ use lib.ListN.{getD}
 use borrow.Author.Needs.{needs}
 use Rattle.diagram.specs.Lent.{Lent, lent}
 use Rattle.diagram.proofs.ShapedLaws.{layer-within, edges-most}
-use Rattle.soundness.proofs.LayerLaws.{stretch}
-use Rattle.soundness.proofs.layer_edges.Statement.{statement}
-use Rattle.soundness.proofs.layer_edges.Tie as tie
+use Rattle.layer_targets.proofs.LayerLaws.{stretch}
+use Rattle.layer_targets.proofs.layer_edges.Statement.{statement}
+use Rattle.layer_targets.proofs.layer_edges.Tie as tie
 
 abbrev d : tie.Start → Lent
 d s = lent (s .args .domains .now) (s .args .layers .now) []

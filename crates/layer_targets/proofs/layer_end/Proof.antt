@@ -1,13 +1,13 @@
--- `soundness::layer_end` meets its contract: every node from `from` to before v has at most the layer. Assumes nothing.
+-- `layer_targets::layer_end` meets its contract: every node from `from` to before v has at most the layer. Assumes nothing.
 use mathlib.Core.Path.{_≡_}
 use Prim.Native.Nat.{_+_, _-_}
 use native.Mathlib.Omega.{arith}
 use lib.ListN.{length}
 use borrow.Author.Needs.{needs}
-use Rattle.soundness.specs.Layers.{NoneAbove}
-use Rattle.soundness.proofs.LayerLaws.{some-more}
-use Rattle.soundness.proofs.layer_end.Statement.{statement}
-use Rattle.soundness.proofs.layer_end.Tie as tie
+use Rattle.layer_targets.specs.Layers.{NoneAbove}
+use Rattle.layer_targets.proofs.LayerLaws.{some-more}
+use Rattle.layer_targets.proofs.layer_end.Statement.{statement}
+use Rattle.layer_targets.proofs.layer_end.Tie as tie
 
 abbrev Inv-loop : tie.InvT-loop
 Inv-loop layers from layer v₀ v = NoneAbove layers from layer v

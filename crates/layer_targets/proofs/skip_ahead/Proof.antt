@@ -1,11 +1,11 @@
--- `soundness::skip_ahead` meets its contract: where the eighth node's layer is low enough, so are those before it. Assumes nothing.
+-- `layer_targets::skip_ahead` meets its contract: where the eighth node's layer is low enough, so are those before it. Assumes nothing.
 use Prim.Native.Nat.{_+_, _-_}
 use native.Mathlib.Omega.{arith}
 use lib.ListN.{length}
-use Rattle.soundness.specs.Layers.{NoneAbove}
-use Rattle.soundness.proofs.LayerLaws.{none-yet, some-more}
-use Rattle.soundness.proofs.skip_ahead.Statement.{statement}
-use Rattle.soundness.proofs.skip_ahead.Tie as tie
+use Rattle.layer_targets.specs.Layers.{NoneAbove}
+use Rattle.layer_targets.proofs.LayerLaws.{none-yet, some-more}
+use Rattle.layer_targets.proofs.skip_ahead.Statement.{statement}
+use Rattle.layer_targets.proofs.skip_ahead.Tie as tie
 
 abbrev Inv-loop : tie.InvT-loop
 Inv-loop layers from layer v₀ v = NoneAbove layers from layer v

@@ -1,13 +1,13 @@
--- `soundness::range_of` meets its contract: the next layer's nodes are the range. Assumes nothing.
+-- `layer_targets::range_of` meets its contract: the next layer's nodes are the range. Assumes nothing.
 use mathlib.Core.Path.{refl}
 use mathlib.Core.List.{[]}
 use native.Mathlib.Omega.{arith}
 use borrow.Author.Needs.{needs}
 use Rattle.diagram.specs.Lent.{Lent, lent}
 use Rattle.diagram.proofs.ShapedLaws.{layer-within, layers-rise}
-use Rattle.soundness.proofs.LayerLaws.{range}
-use Rattle.soundness.proofs.range_of.Statement.{statement}
-use Rattle.soundness.proofs.range_of.Tie as tie
+use Rattle.layer_targets.proofs.LayerLaws.{range}
+use Rattle.layer_targets.proofs.range_of.Statement.{statement}
+use Rattle.layer_targets.proofs.range_of.Tie as tie
 
 abbrev d : tie.Start → Lent
 d s = lent (s .args .domains .now) (s .args .layers .now) []
