@@ -8,7 +8,6 @@ use lib.IntN.{ℤ}
 use lib.ListN.{length, take, length-take}
 use borrow.Author.Tests.{le-ltb, lt-ltb}
 use Rattle.lists.specs.Buffer.{over}
-use Rattle.lists.proofs.UptoLaws.{list-singles}
 use Rattle.lists.proofs.BufferLaws.{over-parts}
 use Rattle.refusal.specs.Rules.{refusal, chain}
 use Rattle.refusal.specs.declared.Refusal.{Refusal}
@@ -34,12 +33,13 @@ use Rattle.dimacs.specs.Write.{writtenSaid, WritePromise}
 use Rattle.dimacs.specs.declared.TextWritten.{TextWritten}
 use Rattle.dimacs.specs.declared.WriteAnswer.{WriteAnswer}
 use Rattle.dimacs.proofs.WriteLaws.{write-well}
-use Rattle.diagram_file.specs.File.{valuesAfter, fileDiagram}
+use Rattle.diagram_file.specs.File.{fileDiagram}
 use Rattle.diagram_file.specs.Rules.{fileRules}
 use Rattle.diagram_file.specs.Promise.{sizes, sizesSaid, sizesOf, fileSaid, roomOf, overLent, FilePromise, file-said-once}
 use Rattle.diagram_file.specs.declared.Sizes.{Sizes}
 use Rattle.diagram_file.specs.declared.FileRead.the-variants as file
 use Rattle.diagram_file.specs.declared.FileAnswer.{FileAnswer}
+use Rattle.diagram_file.proofs.ReadLaws.{file-lengths}
 use Rattle.desk.specs.Output.{mostBytes, mostSizes, mostWords, listRules, linesRules, deskRules, diagramText}
 use Rattle.desk.specs.Promise.{deskSaid, PrintedBy}
 use Rattle.desk.specs.declared.DeskRun.{DeskRun}
@@ -113,10 +113,6 @@ module _ (input : List ℕ) (before : Lent) (answer : FileAnswer) (after : Lent)
     pub layers : Begins (s .nodes) (after .layers) (fileDiagram input .layers)
     pub targets : Begins (s .edges) (after .targets) (fileDiagram input .targets)
 
-  values-length : (key : List ℕ) (k count : ℕ) → length (valuesAfter input key k count) ≡ count
-  unfolding valuesAfter
-  values-length key k count = list-singles count _
-
   front : {n : ℕ} (xs l : List ℕ) {l′ : List ℕ} → l′ ≡ over xs l → n ≡ length xs → Begins n l′ xs
   front xs l e h = record { entries = over-parts xs l h e .0; count = h }
 
@@ -128,9 +124,9 @@ module _ (input : List ℕ) (before : Lent) (answer : FileAnswer) (after : Lent)
       let l = tells .told-leaves (w .0) in
       record {
         goes-on = passes (fileRules input mostSizes) (listRules (fileDiagram input)) refl (sym file-verdict ∙ w .0) refl;
-        domains = front _ _ (ap (λ (d : Lent). d .domains) l) (ap (λ (s : Sizes). s .options) z ∙ sym (values-length _ _ _));
-        layers = front _ _ (ap (λ (d : Lent). d .layers) l) (ap (λ (s : Sizes). s .nodes) z ∙ sym (values-length _ _ _));
-        targets = front _ _ (ap (λ (d : Lent). d .targets) l) (ap (λ (s : Sizes). s .edges) z ∙ sym (values-length _ _ _));
+        domains = front _ _ (ap (λ (d : Lent). d .domains) l) (ap (λ (s : Sizes). s .options) z ∙ sym (file-lengths input .0));
+        layers = front _ _ (ap (λ (d : Lent). d .layers) l) (ap (λ (s : Sizes). s .nodes) z ∙ sym (file-lengths input .1));
+        targets = front _ _ (ap (λ (d : Lent). d .targets) l) (ap (λ (s : Sizes). s .edges) z ∙ sym (file-lengths input .2));
       }
 
   pub filled-diagram : {s : Sizes} → Filled s → lent (take (s .options) (after .domains)) (take (s .nodes) (after .layers)) (take (s .edges) (after .targets)) ≡ fileDiagram input

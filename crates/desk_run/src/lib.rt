@@ -20,7 +20,7 @@ fn run_in(
     requires { ⌜ (length (now domains) ≡ 64) × (length (now layers) ≡ 512) × (length (now targets) ≡ 1024) ⌝ }
     ensures { λ r. ⌜ PrintedBy (chain (linesRules (now (input .entry)))) (diagramText (fileDiagram (now (input .entry)))) (now (out .entry)) r (now (out .exit)) ⌝ }
 {
-    let answer = diagram_file::read_diagram(input, domains, layers, targets);
+    let answer = file_reader::read_diagram(input, domains, layers, targets);
     let outcome = answer.outcome;
     match outcome {
         FileRead::Refused(r) => refusal_lines::print_refusal(r, out),

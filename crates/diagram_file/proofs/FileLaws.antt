@@ -9,10 +9,9 @@ use lib.ListN.{length}
 use borrow.Author.Tests.{not-true, not-false, leb-true, leb-false, ltb-true, ltb-false}
 use Rattle.lists.proofs.FirstLaws.{Tests, tests-at, tests-each, tests-from}
 use Rattle.refusal.proofs.TableLaws.{Faithful, faithful-append}
-use Rattle.diagram_file.specs.Lines.{lineStart, line, LineGives, formed, valueOf}
+use Rattle.diagram_file.specs.Lines.{oneLine, lineStart, line, LineGives, formed, valueOf}
 use Rattle.diagram_file.specs.File.{optionsKey, domainKey, nodesKey, layerKey, edgesKey, toKey, nodesLine, edgesLine, endLine}
 use Rattle.diagram_file.specs.Rules.{misformed, partRules, endRules, fileRules, partTable, endTable, fileTable}
-use Rattle.diagram_file.specs.Judged.{oneLine}
 use Rattle.diagram_file.specs.declared.Sizes.{Sizes}
 use Rattle.diagram_file.proofs.LineLaws.{formed-gives, gives-formed, line-missing, missing-line}
 

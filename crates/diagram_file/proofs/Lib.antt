@@ -1,5 +1,4 @@
 -- The laws of this crate that others cite. Assumes nothing.
 pub mod LineLaws
 pub mod FileLaws
-pub mod PartLaws
 pub mod ReadLaws

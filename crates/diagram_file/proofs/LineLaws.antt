@@ -16,8 +16,8 @@ use Rattle.decimal.specs.Reading.{run, cut, fieldAt}
 use Rattle.decimal.proofs.DigitsLaws.{decimal-digits, all-first, digit-range}
 use Rattle.decimal.proofs.BytesLaws.{starts-with, with-start}
 use Rattle.decimal.proofs.FieldLaws.{field-read, read-field}
-use Rattle.diagram_file.specs.Lines.{lineFeed, mostValue, firstLine, GivesValue, lineStart, line, LineGives, readAfter, formedAt, formed, valueOf}
-use Rattle.diagram_file.specs.Judged.{oneLine}
+use Rattle.diagram_file.specs.Lines.{lineFeed, mostValue, firstLine, oneLine, GivesValue, lineStart, line, LineGives, readAfter, formedAt, lineAt, formed, valueOf}
+use Rattle.diagram_file.specs.declared.Line.{Line}
 
 -- ---- the first line of a text
 
@@ -151,12 +151,37 @@ module _ (text key : List ℕ) (one : oneLine key ≡ true) (k : ℕ) where
   gives-value ds g = gives-says ds g .gives
 
   -- where the next line begins
-  pub next-start : formed text key k ≡ true → lineStart text (k + 1) ≡ readAfter text key (lineStart text k) .end + 1
+  next-start : formed text key k ≡ true → lineStart text (k + 1) ≡ readAfter text key (lineStart text k) .end + 1
   unfolding lineStart
   next-start h =
       let w = formed-stands text key (lineStart text k) h in
       let e = simp length-append at (ap length (stand-line (w .0) (w .1) (w .2))) in
       rw (add-one k) (omega (arith, w .3 .ends))
+
+-- ---- what is read of the lines one after the other
+
+-- a line's form is the one that is read
+pub line-formed : (text key : List ℕ) (at : ℕ) → lineAt text key at .formed ≡ formedAt text key at
+unfolding lineAt
+line-formed text key at = go (formedAt text key at)
+  where
+    go : (t : Bool) → cond {A = Line} t (record { formed = true; value = readAfter text key at .value; next = readAfter text key at .end + 1 }) (record { formed = false; value = 0; next = 0 }) .formed ≡ t
+    go true = refl
+    go false = refl
+
+-- of a line that has it: its value is the one that is read, and the next line begins where the reading ends
+module _ (text key : List ℕ) (k : ℕ) (h : formed text key k ≡ true) where
+  pub line-value : lineAt text key (lineStart text k) .value ≡ valueOf text key k
+  unfolding lineAt valueOf
+  line-value = rw h
+
+  pub line-next : oneLine key ≡ true → lineAt text key (lineStart text k) .next ≡ lineStart text (k + 1)
+  unfolding lineAt
+  line-next one = rw (h, next-start text key one k h)
+
+  -- inside the text, and two bytes further at least
+  pub line-inside : oneLine key ≡ true → (lineStart text (k + 1) ≤ length text) × (lineStart text k + 2 ≤ lineStart text (k + 1))
+  line-inside one = let e = next-start text key one k h in let i = formed-inside text key (lineStart text k) h in (omega (arith, e, i .0), omega (arith, e, i .1))
 
 -- ---- the end of the text
 

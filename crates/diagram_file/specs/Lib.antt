@@ -3,4 +3,3 @@ pub mod Lines
 pub mod File
 pub mod Rules
 pub mod Promise
-pub mod Judged

@@ -1,7 +1,7 @@
 -- The lines of a text, and the form of a line that gives a value. Lines, and the bytes of a text, count from 0 here. Assumes
 -- nothing.
 use mathlib.Core.Path.{_≡_}
-use mathlib.Core.Bool.{Bool, true, cond, _&&_}
+use mathlib.Core.Bool.{Bool, true, false, cond, not, _&&_}
 use mathlib.Core.List.{List, [], _∷_, _++_}
 use Prim.Native.Nat.{ℕ, zero, suc, _+_, _≤_}
 use lib.Dec.{leb, eqb}
@@ -10,6 +10,7 @@ use Rattle.decimal.specs.Digits.{isDecimal, value}
 use Rattle.decimal.specs.Bytes.{hasAt}
 use Rattle.decimal.specs.Reading.{readingAt, fieldAt}
 use Rattle.decimal.specs.declared.Reading.{Reading}
+use Rattle.diagram_file.specs.declared.Line.{Line}
 
 abbrev pub lineFeed : ℕ
 lineFeed = 10
@@ -22,6 +23,11 @@ mostValue = 4294967295
 unfoldable pub firstLine : List ℕ → List ℕ
 firstLine [] = []
 firstLine (b ∷ bs) = b ∷ cond (eqb b lineFeed) [] (firstLine bs)
+
+-- no byte of a key is a line feed
+unfoldable pub oneLine : List ℕ → Bool
+oneLine [] = true
+oneLine (b ∷ bs) = not (eqb b lineFeed) && oneLine bs
 
 -- a line that gives a value: the key, the decimal ds of a number up to 4294967295, a line feed
 pub record GivesValue (line key ds : List ℕ) : Type 0 where
@@ -51,6 +57,10 @@ module _ (text : List ℕ) where
   -- the key, a value and a line feed stand from an index of the text on
   unfoldable pub formedAt : List ℕ → ℕ → Bool
   formedAt key at = hasAt text at key && (fieldAt text (readAfter key at) lineFeed && leb (readAfter key at .value) mostValue)
+
+  -- the line that stands there: its value, and where the next one begins
+  unfoldable pub lineAt : List ℕ → ℕ → Line
+  lineAt key at = cond (formedAt key at) (record { formed = true; value = readAfter key at .value; next = readAfter key at .end + 1 }) (record { formed = false; value = 0; next = 0 })
 
   abbrev pub formed : List ℕ → ℕ → Bool
   formed key k = formedAt key (lineStart k)
