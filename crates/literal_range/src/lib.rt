@@ -56,19 +56,12 @@ fn search_bad_literal(literals: &[i32], last: u32) -> Found
     Found::Nothing
 }
 
-// A number, cut to the most that it may be.
-pub fn at_most(most: u32, n: u32) -> u32
-    ensures { λ r. ⌜ r ≡ min most n ⌝ }
-{
-    if most < n { most } else { n }
-}
-
 // The first literal that is 0, or beyond the last variable either way; a last variable that no literal can name is cut to the
 // largest that one can. Searched for only where the count is not 0, or would not fit.
 pub fn first_bad_literal(literals: &[i32], last: u32) -> Found
     ensures { λ r. ⌜ r ≡ first (badAt (min 2147483647 last) (now (literals .entry))) (length (now (literals .entry))) ⌝ }
 {
-    let top = at_most(LARGEST, last);
+    let top = bounds::at_most(LARGEST, last);
     if 4294967295 < literals.len() {
         return search_bad_literal(literals, top);
     }

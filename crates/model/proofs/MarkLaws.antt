@@ -2,12 +2,12 @@
 use mathlib.Core.Path.{_≡_, sym, ap}
 use mathlib.Core.Bool.{Bool, true, false, not}
 use mathlib.Core.List.{List, [], _∷_}
-use Prim.Native.Nat.{ℕ, _+_, _<_}
+use Prim.Native.Nat.{ℕ, _+_, _≤_, _<_}
 use native.Mathlib.Omega.{arith}
 use lib.Dec.{eqb}
 use lib.IntN.{ℤ}
 use lib.ListN.{length}
-use borrow.Author.Tests.{eqb-true}
+use borrow.Author.Tests.{eqb-true, lt-ltb, le-ltb}
 use Rattle.lists.specs.Upto.{countTo, lastTo}
 use Rattle.lists.specs.First.{first, sole}
 use Rattle.lists.specs.declared.Found.the-variants.{Nothing, At}
@@ -18,6 +18,7 @@ use Rattle.diagram.specs.Numbers.{firstValue, values}
 use Rattle.diagram.proofs.NumberLaws.{value-sums}
 use Rattle.naming.specs.Marks.{Marks, markedTrue}
 use Rattle.model.specs.Rules.{hasValue, unclear, valueOf, valuesTo, namesTrue, buildOf}
+use Rattle.model.specs.Steps.{unread}
 
 -- ---- an option's value
 
@@ -33,6 +34,16 @@ module _ (d : Lent) (isTrue : ℕ → Bool) (i : ℕ) where
   pub not-clear : sole (hasValue d isTrue i) (domain d i) ≡ Nothing → unclear d isTrue i ≡ true
   unfolding sole unclear
   not-clear e = ap not (if-none one (lastTo (domain d i) (hasValue d isTrue i)) e)
+
+-- where it has a mark for each value it is refused only where it is not clear, and otherwise always
+module _ (d : Lent) (marks : List ℕ) (i : ℕ) where
+  pub marked-unread : firstValue d i + domain d i ≤ length marks → unread d marks i ≡ unclear d (markedTrue marks) i
+  unfolding unread
+  marked-unread h = rw (le-ltb (length marks) (firstValue d i + domain d i) h)
+
+  pub unmarked-unread : length marks < firstValue d i + domain d i → unread d marks i ≡ true
+  unfolding unread
+  unmarked-unread h = rw (lt-ltb (length marks) (firstValue d i + domain d i) h)
 
 -- ---- the marks that the whole model leaves say what the model says
 

@@ -1,87 +1,126 @@
--- How `read_model` comes to its answer: the diagram is refused, the list is too short, a literal, an option or the build is
+-- How `read_model` comes to its answer: the diagram is refused; or the list is too short, a literal, an option or the build is
 -- refused, or the build goes out. Assumes nothing.
-use mathlib.Core.Path.{_≡_, refl, ap, subst}
-use mathlib.Core.Bool.{true, false, not}
+use mathlib.Core.Path.{_≡_, refl, sym, _∙_, ap}
+use mathlib.Core.Bool.{not}
 use mathlib.Core.List.{List, [], _∷_}
-use Prim.Native.Nat.{ℕ, _≤_, _<_}
+use Prim.Native.Nat.{ℕ, _≤_}
+use native.Mathlib.Omega.{arith}
 use lib.IntN.{ℤ}
-use lib.ListN.{length}
-use Rattle.lists.specs.First.{foundIf}
+use lib.ListN.{length, take}
+use Rattle.lists.specs.First.{foundIf, first}
 use Rattle.lists.specs.Buffer.{over}
-use Rattle.lists.specs.declared.Found.the-variants.{At}
-use Rattle.refusal.specs.Rules.{Rule, rule, refusal, roomRule, chain}
-use Rattle.refusal.specs.Said.{result}
+use Rattle.lists.specs.declared.Found.the-variants.{Nothing}
+use Rattle.lists.proofs.UptoLaws.{list-singles}
+use Rattle.lists.proofs.FirstLaws.{first-agrees}
+use Rattle.lists.proofs.BufferLaws.{over-parts}
+use Rattle.refusal.specs.Rules.{Rule, rule, roomRule, andThen, chain}
+use Rattle.refusal.specs.Said.{saying, leaving}
 use Rattle.refusal.specs.declared.Refusal.{Refusal}
 use Rattle.refusal.specs.declared.Verdict.{Verdict}
 use Rattle.refusal.specs.declared.Verdict.the-variants.{Passed, Refused as Refusing}
-use Rattle.refusal.proofs.RulesLaws.{refuses, passes, tested, not-tested}
-use Rattle.refusal.proofs.RoomLaws.{too-short, long-enough}
-use Rattle.refusal.proofs.AnsweredLaws.{by-refusal, by-result, first-refuse, goes-on}
+use Rattle.refusal.proofs.RulesLaws.{chain-append, refuses, passes, and-passed, not-due}
+use Rattle.refusal.proofs.RoomLaws.{long-enough}
+use Rattle.refusal.proofs.AnsweredLaws.{first-refuse, goes-on}
 use Rattle.diagram.specs.Lent.{Lent, lent, options}
-use Rattle.diagram.specs.Numbers.{firstValue}
+use Rattle.diagram.specs.Numbers.{firstValue, values}
 use Rattle.diagram.specs.Rules.{checkRules}
+use Rattle.diagram.proofs.NumberLaws.{value-sums}
 use Rattle.judge.specs.Build.{Fits}
 use Rattle.judge.specs.Promise.{allowsTest}
 use Rattle.clauses.specs.Clauses.{Edition, lastVariable}
-use Rattle.model.specs.Rules.{unclear, valueOf, buildOf, valueRules, literalRules, soundRules, modelRules}
+use Rattle.naming.specs.Naming.{namingRules}
+use Rattle.naming.specs.Marks.{Marks, markedTrue}
+use Rattle.model.specs.Rules.{unclear, valueOf, valuesTo, namesTrue, buildOf, valueRules, literalRules, soundRules, modelRules}
 use Rattle.model.specs.Promise.{modelSaid, ReadBy, ModelPromise}
-use Rattle.model.specs.declared.ModelRead.the-variants.{Built, Refused}
+use Rattle.model.specs.Steps.{roomVerdict, unread, firstUnread, valuesVerdict, valuesAfter, writeVerdict, answerOf}
+use Rattle.model.specs.declared.ModelRead.the-variants.{Refused}
 use Rattle.model.specs.declared.ModelAnswer.{ModelAnswer}
+use Rattle.model.proofs.MarkLaws.{marked-unread, same-unclear, same-values}
 use Rattle.model.proofs.NamedLaws.{values-passed, build-said, build-fits}
 
 -- number 7, as a list of its own
 abbrev pub roomRules : Lent → ℕ → List Rule
 roomRules d room = roomRule (options d) room ∷ []
 
--- the numbers 10 to 12, and the build, read no list of the diagram but the domains
-module _ (ds ls ts : List ℕ) (m : List ℤ) where
-  pub same-value-rules : (last : ℕ) → valueRules (lent ds [] []) m last ≡ valueRules (lent ds ls ts) m last
-  unfolding valueRules unclear firstValue
-  same-value-rules last = refl
+-- the options' values, and how they are read, are those of the domains: no other list of the diagram is read
+module _ (ds ls ts marks : List ℕ) (named : Verdict) where
+  pub same-verdict : (room : ℕ) → valuesVerdict (lent ds [] []) marks named room ≡ valuesVerdict (lent ds ls ts) marks named room
+  unfolding unread unclear firstValue
+  same-verdict room = refl
 
-  pub same-build : buildOf (lent ds [] []) m ≡ buildOf (lent ds ls ts) m
-  unfolding valueOf firstValue
-  same-build = refl
+  pub same-after : (before : List ℕ) → valuesAfter (lent ds [] []) marks named before ≡ valuesAfter (lent ds ls ts) marks named before
+  unfolding unread unclear valueOf firstValue
+  same-after before = refl
 
-module _ (d : Lent) (m : List ℤ) (last : ℕ) where
-  -- where they have passed, the build fits the diagram
-  pub values-fit : chain (valueRules d m last) ≡ Passed → Fits d (buildOf d m)
-  values-fit q = let v = values-passed d m last q in build-fits d m (buildOf d m) (build-said d m (v .0 .named-first) (v .1))
+-- where there are marks for all values, an option is refused only where it has not exactly one true value
+unread-unclear : (d : Lent) (marks : List ℕ) → values d ≤ length marks → firstUnread d marks ≡ first (unclear d (markedTrue marks)) (options d)
+unread-unclear d marks small = first-agrees _ _ (options d) (λ i h. marked-unread d marks i (omega (arith, value-sums d .room i (options d) h)))
 
-  -- ---- numbers 10 to 12, and then 13
+answer-says : (v : Verdict) (n : ℕ) → modelSaid (answerOf v n .outcome) ≡ saying v (n ∷ [])
+answer-says Passed n = refl
+answer-says (Refusing r) n = refl
 
-  module _ {u : Verdict} (said : u ≡ chain (valueRules d m last)) where
-    pub values-refuse : {r : Refusal} → u ≡ Refusing r → u ≡ chain (literalRules d m last)
-    unfolding literalRules
-    values-refuse q = refuses (valueRules d m last) _ said q
+-- ---- numbers 10 to 13, of a model: what its names are refused for, and the marks that they leave
 
-    module _ (q : u ≡ Passed) where
-      pub then-allowed : allowsTest d (buildOf d m) ≡ true → Passed ≡ chain (literalRules d m last)
-      unfolding literalRules chain
-      then-allowed a = passes (valueRules d m last) (rule 13 (foundIf (not (allowsTest d (buildOf d m))) 0) ∷ []) said q (not-tested 13 [] (ap not a) refl)
+module _ (d : Lent) (m : List ℤ) (last : ℕ) (small : values d ≤ 2048) {named : Verdict} (said : named ≡ chain (namingRules last (values d) m)) {marks : List ℕ} (marked : named ≡ Passed → Marks (values d) m (length m) marks) where
+  -- number 12 is due where the marks say so
+  unread-said : named ≡ Passed → firstUnread d marks ≡ first (unclear d (namesTrue d m)) (options d)
+  unread-said q = unread-unclear d marks (omega (arith, marked q .whole)) ∙ same-unclear d m marks (marked q)
 
-      pub then-not-allowed : {v : Verdict} → allowsTest d (buildOf d m) ≡ false → v ≡ chain (rule 13 (At 0) ∷ []) → v ≡ chain (literalRules d m last)
+  module _ (before : List ℕ) {build front : List ℕ} {read : Verdict} (room : options d ≤ length before) (verdict : read ≡ valuesVerdict d marks named (length before)) (after : build ≡ valuesAfter d marks named before) (lies : front ≡ take (options d) build) where
+    pub values-said : read ≡ chain (valueRules d m last)
+    unfolding valueRules
+    values-said = go named refl
+      where
+        go : (u : Verdict) → named ≡ u → read ≡ chain (valueRules d m last)
+        go (Refusing r) q = (verdict ∙ rw q) ∙ sym q ∙ refuses (namingRules last (values d) m) _ said q
+        go Passed q = passes (namingRules last (values d) m) _ said q (verdict ∙ rw (q, long-enough (options d) (length before) room, unread-said q))
+
+    pub values-built : read ≡ Passed → front ≡ buildOf d m
+    values-built p =
+        let long = long-enough (options d) (length before) room in
+        let q = and-passed named _ (sym verdict ∙ p) in
+        let none : firstUnread d marks ≡ Nothing = not-due 12 (firstUnread d marks) [] (rw long at (q .1)) .0 in
+        let whole : build ≡ over (valuesTo d (markedTrue marks) (options d)) before = after ∙ rw (q .0, long, none) in
+        lies ∙ over-parts (valuesTo d (markedTrue marks) (options d)) before (sym (list-singles (options d) (valueOf d (markedTrue marks)))) whole .0 ∙ same-values d m marks (marked (q .0))
+
+    pub values-fit : read ≡ Passed → Fits d front
+    values-fit p = let v = values-passed d m last (sym values-said ∙ p) in rw (values-built p) (build-fits d m (buildOf d m) (build-said d m (v .0 .named-first) (v .1)))
+
+    -- ---- and then 13
+
+    module _ {allowed : Verdict} (judged : allowed ≡ andThen read (chain (rule 13 (foundIf (not (allowsTest d front)) 0) ∷ []))) where
+      literals-said : allowed ≡ chain (literalRules d m last)
       unfolding literalRules
-      then-not-allowed a e = passes (valueRules d m last) _ said q (tested 13 [] (ap not a) e)
+      literals-said = go read refl
+        where
+          go : (u : Verdict) → read ≡ u → allowed ≡ chain (literalRules d m last)
+          go (Refusing r) q = (judged ∙ rw q) ∙ sym q ∙ refuses (valueRules d m last) _ values-said q
+          go Passed q = passes (valueRules d m last) _ values-said q (judged ∙ rw (q, values-built q))
 
-  -- ---- of a sound diagram: the list is too short; or a rule of the literals is due, or none
+      -- ---- the build goes out
 
-  module _ (before : List ℕ) where
-    pub read-short : length before < options d → ReadBy (soundRules d m last (length before)) d m before (record { outcome = Refused (refusal 7 (options d)) }) before
-    unfolding soundRules
-    read-short h = first-refuse modelSaid _ _ before (roomRules d (length before)) (literalRules d m last) refl (too-short (options d) (length before) h)
+      module _ (given : List ℕ) (whole : length front ≡ options d) where
+        abbrev last-verdict : Verdict
+        last-verdict = writeVerdict allowed (length front) (length given)
 
-    pub read-room : options d ≤ length before → {v : ℕ} → v ≡ last → (answer : ModelAnswer) (after : List ℕ) → ReadBy (literalRules d m v) d m before answer after → ReadBy (soundRules d m last (length before)) d m before answer after
-    unfolding soundRules
-    read-room h e answer after j = goes-on modelSaid _ _ before (roomRules d (length before)) (literalRules d m last) (long-enough (options d) (length before) h) (subst (λ (v : ℕ). ReadBy (literalRules d m v) d m before answer after) e j)
+        all-said : last-verdict ≡ chain (soundRules d m last (length given))
+        unfolding soundRules
+        all-said = rw (chain-append (roomRules d (length given)) (literalRules d m last), whole, literals-said)
 
-    pub read-refused : {r : Refusal} → chain (literalRules d m last) ≡ Refusing r → ReadBy (literalRules d m last) d m before (record { outcome = Refused r }) before
-    read-refused q = by-refusal modelSaid _ _ before refl q
+        -- where nothing is refused, what goes out is the model's build
+        front-goes : (v : Verdict) → last-verdict ≡ v → leaving v (over front given) given ≡ leaving v (over (buildOf d m) given) given
+        front-goes (Refusing r) q = refl
+        front-goes Passed q = ap (λ (l : List ℕ). over l given) (values-built (and-passed read _ (sym judged ∙ and-passed (roomVerdict (length front) (length given)) allowed q .1) .0))
 
-    pub read-built : {n : ℕ} → n ≡ options d → chain (literalRules d m last) ≡ Passed → {after : List ℕ} → after ≡ over (buildOf d m) before → ReadBy (literalRules d m last) d m before (record { outcome = Built n }) after
-    read-built e q b = by-result modelSaid _ _ before (ap (λ (n : ℕ). result (n ∷ [])) e) q b
+        pub read-written : {list : List ℕ} {answer : ModelAnswer} → answer ≡ answerOf last-verdict (length front) → list ≡ leaving last-verdict (over front given) given → ReadBy (soundRules d m last (length given)) d m given answer list
+        read-written e f =
+            record {
+              says = ap (λ (a : ModelAnswer). modelSaid (a .outcome)) e ∙ answer-says last-verdict (length front) ∙ rw (all-said, whole);
+              buffer = f ∙ front-goes last-verdict refl ∙ rw all-said;
+            }
 
--- ---- of any
+-- ---- of any diagram
 
 module _ (e : Edition) (d : Lent) (m : List ℤ) (before : List ℕ) where
   pub read-refuses : {r : Refusal} → chain (checkRules d) ≡ Refusing r → ModelPromise e d m before (record { outcome = Refused r }) before

@@ -2,3 +2,4 @@
 pub mod Model
 pub mod Rules
 pub mod Promise
+pub mod Steps

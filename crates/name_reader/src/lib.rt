@@ -164,7 +164,7 @@ pub fn read_names(literals: &[i32], last: u32, values: u32) -> NamesRead
         };
     }
     let mut marks = no_marks();
-    let top = literal_range::at_most(naming::VALUES as u32, values) as usize;
+    let top = bounds::at_most(naming::VALUES as u32, values) as usize;
     let twice = refusal::verdict_of(Refusal::NAMED_TWICE, first_again(literals, top, &mut marks));
     if let Verdict::Refused(_) = twice {
         return NamesRead {

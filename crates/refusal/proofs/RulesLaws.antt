@@ -7,17 +7,13 @@ use native.Mathlib.Omega.{arith}
 use Rattle.lists.specs.First.{foundIf}
 use Rattle.lists.specs.declared.Found.{Found}
 use Rattle.lists.specs.declared.Found.the-variants.{Nothing, At}
-use Rattle.refusal.specs.Rules.{Rule, rule, chain}
+use Rattle.refusal.specs.Rules.{Rule, rule, andThen, chain}
 use Rattle.refusal.specs.declared.Refusal.{Refusal}
 use Rattle.refusal.specs.declared.Verdict.{Verdict}
 use Rattle.refusal.specs.declared.Verdict.the-variants.{Passed, Refused}
 
 -- a refusal of the first rules stands; where they pass the later ones decide
-abbrev and-then : Verdict → Verdict → Verdict
-and-then Passed v = v
-and-then (Refused r) v = Refused r
-
-chain-append : (xs ys : List Rule) → chain (xs ++ ys) ≡ and-then (chain xs) (chain ys)
+pub chain-append : (xs ys : List Rule) → chain (xs ++ ys) ≡ andThen (chain xs) (chain ys)
 unfolding chain
 chain-append [] ys = refl
 chain-append (rule n Nothing ∷ xs) ys = chain-append xs ys
@@ -39,7 +35,7 @@ pub not-tested : (n : ℕ) (rules : List Rule) {b : Bool} {v : Verdict} → b �
 unfolding chain
 not-tested n rules e f = rw e f
 
-and-passed : (v w : Verdict) → and-then v w ≡ Passed → (v ≡ Passed) × (w ≡ Passed)
+pub and-passed : (v w : Verdict) → andThen v w ≡ Passed → (v ≡ Passed) × (w ≡ Passed)
 and-passed Passed w e = (refl, e)
 and-passed (Refused r) w e = (e, cc)
 

@@ -21,6 +21,11 @@ abbrev pub ruled : ℕ → Found → Verdict → Verdict
 ruled n (At p) later = Refused (refusal n p)
 ruled n Nothing later = later
 
+-- a refusal stands, and where it passed the later verdict decides
+abbrev pub andThen : Verdict → Verdict → Verdict
+andThen Passed later = later
+andThen (Refused r) later = Refused r
+
 -- number 7: a lent buffer of `room` entries is too short for the `needed` ones, and these are its place
 abbrev pub roomRule : ℕ → ℕ → Rule
 roomRule needed room = rule 7 (foundIf (ltb room needed) needed)

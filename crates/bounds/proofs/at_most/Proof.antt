@@ -1,7 +1,7 @@
--- `literal_range::at_most` meets its contract. Assumes nothing.
+-- `bounds::at_most` meets its contract. Assumes nothing.
 use native.Mathlib.Omega.{arith}
-use Rattle.literal_range.proofs.at_most.Statement.{statement}
-use Rattle.literal_range.proofs.at_most.Tie as tie
+use Rattle.bounds.proofs.at_most.Statement.{statement}
+use Rattle.bounds.proofs.at_most.Tie as tie
 
 pub at-most-spec : {M : Type 1} → statement M
 at-most-spec =

@@ -1,4 +1,4 @@
--- `model_reader::one_value` meets its contract: before turn j, n counts the true values below j and `value` is the last of them.
+-- `model_values::one_value` meets its contract: before turn j, n counts the true values below j and `value` is the last of them.
 -- Assumes nothing.
 use mathlib.Core.Path.{_≡_, sym, _∙_}
 use mathlib.Core.Bool.{Bool}
@@ -12,8 +12,8 @@ use Rattle.lists.specs.Upto.{countTo, lastTo}
 use Rattle.lists.proofs.UptoLaws.{last-start, last-pass, last-found}
 use Rattle.lists.proofs.FirstLaws.{count-start, count-pass, count-found, count-most, sole-one, sole-none}
 use Rattle.naming.specs.Marks.{markedTrue}
-use Rattle.model_reader.proofs.one_value.Statement.{statement}
-use Rattle.model_reader.proofs.one_value.Tie as tie
+use Rattle.model_values.proofs.one_value.Statement.{statement}
+use Rattle.model_values.proofs.one_value.Tie as tie
 
 abbrev test : List ℕ → ℕ → ℕ → Bool
 test marks before j = markedTrue marks (before + j)
