@@ -11,37 +11,7 @@ ghost use Rattle.lists.specs.Upto.{countTo};
 ghost use Rattle.lists.specs.First.{first};
 ghost use Rattle.refusal.specs.Rules.{chain};
 ghost use Rattle.diagram.specs.Lent.{lent};
-ghost use Rattle.diagram.specs.Rules.{outside, breaksRule, badDomain, badLayer, optionRules, nodeRules, shapeRules};
-
-// ---- numbers 1 and 2
-
-fn is_outside(low: usize, high: usize, x: usize) -> bool
-    ensures { λ r. ⌜ r ≡ outside low high x ⌝ }
-{
-    if x < low { true } else { high < x }
-}
-
-fn first_bad_domain(domains: &[u32]) -> Found
-    ensures { λ r. ⌜ r ≡ first (badDomain (lent (now (domains .entry)) [] [])) (length (now (domains .entry))) ⌝ }
-{
-    let mut i = 0;
-    while i < domains.len() {
-        if is_outside(1, Diagram::MAX_DOMAIN as usize, domains[i] as usize) {
-            return Found::At(i);
-        }
-        i += 1;
-    }
-    Found::Nothing
-}
-
-fn check_options(domains: &[u32]) -> Verdict
-    ensures { λ r. ⌜ r ≡ chain (optionRules (lent (now (domains .entry)) [] [])) ⌝ }
-{
-    if is_outside(1, Diagram::MAX_OPTIONS as usize, domains.len()) {
-        return refusal::verdict_of(Refusal::OPTIONS, Found::At(0));
-    }
-    refusal::verdict_of(Refusal::DOMAIN, first_bad_domain(domains))
-}
+ghost use Rattle.diagram.specs.Rules.{breaksRule, badLayer, nodeRules, shapeRules};
 
 // ---- numbers 3 and 4
 
@@ -117,7 +87,7 @@ fn check_nodes(domains: &[u32], layers: &[u32]) -> Verdict
     requires { ⌜ length (now domains) ≤ 64 ⌝ }
     ensures { λ r. ⌜ r ≡ chain (nodeRules (lent (now (domains .entry)) (now (layers .entry)) [])) ⌝ }
 {
-    if is_outside(1, Diagram::MAX_NODES as usize, layers.len()) {
+    if option_check::is_outside(1, Diagram::MAX_NODES as usize, layers.len()) {
         return refusal::verdict_of(Refusal::NODES, Found::At(0));
     }
     refusal::verdict_of(Refusal::LAYER, first_bad_layer(domains, layers))
@@ -129,7 +99,7 @@ fn check_nodes(domains: &[u32], layers: &[u32]) -> Verdict
 pub fn check_shape(domains: &[u32], layers: &[u32]) -> Verdict
     ensures { λ r. ⌜ r ≡ chain (shapeRules (lent (now (domains .entry)) (now (layers .entry)) [])) ⌝ }
 {
-    let a = check_options(domains);
+    let a = option_check::check_options(domains);
     if let Verdict::Refused(_) = a {
         return a;
     }

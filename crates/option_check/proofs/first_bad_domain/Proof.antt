@@ -1,4 +1,4 @@
--- `shape::first_bad_domain` meets its contract: none below i is bad. Assumes nothing.
+-- `option_check::first_bad_domain` meets its contract: none below i is bad. Assumes nothing.
 use mathlib.Core.Path.{_≡_, sym, _∙_}
 use mathlib.Core.List.{[]}
 use Prim.Native.Nat.{_≤_, _-_}
@@ -10,8 +10,8 @@ use Rattle.lists.specs.declared.Found.the-variants.{Nothing}
 use Rattle.lists.proofs.FirstLaws.{start, pass, stop, done}
 use Rattle.diagram.specs.Lent.{lent}
 use Rattle.diagram.specs.Rules.{badDomain}
-use Rattle.shape.proofs.first_bad_domain.Statement.{statement}
-use Rattle.shape.proofs.first_bad_domain.Tie as tie
+use Rattle.option_check.proofs.first_bad_domain.Statement.{statement}
+use Rattle.option_check.proofs.first_bad_domain.Tie as tie
 
 abbrev Inv-loop : tie.InvT-loop
 Inv-loop domains i₀ i = (i ≤ length domains) × (first (badDomain (lent domains [] [])) i ≡ Nothing)

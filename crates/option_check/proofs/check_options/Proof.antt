@@ -1,10 +1,10 @@
--- `shape::check_options` meets its contract. Assumes nothing.
+-- `option_check::check_options` meets its contract. Assumes nothing.
 use mathlib.Core.Path.{sym, _∙_}
 use borrow.Author.Needs.{needs}
 use Rattle.refusal.proofs.RulesLaws.{tested, not-tested}
 use Rattle.diagram.specs.Rules.{optionRules}
-use Rattle.shape.proofs.check_options.Statement.{statement}
-use Rattle.shape.proofs.check_options.Tie as tie
+use Rattle.option_check.proofs.check_options.Statement.{statement}
+use Rattle.option_check.proofs.check_options.Tie as tie
 
 returns : tie.Need-returns
 unfolding optionRules
