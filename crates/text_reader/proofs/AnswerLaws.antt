@@ -97,8 +97,8 @@ module _ (text : List ℕ) (before : List ℤ) {h : Header} (e : h ≡ headerOf 
 
 -- the tokens: numbers 18 and 14
 module _ (v : ℕ) (ts : List Token) (rules : List Rule) (before : List ℤ) where
-  pub read-bad-token : {r : Refusal} → chain (tokenRules v ts) ≡ Refusing r → ReadBy (tokenRules v ts ++ rules) (wordsOf ts) v before (record { outcome = Refused r }) before
-  read-bad-token q = first-refuse readSaid _ _ before (tokenRules v ts) rules refl q
+  pub read-bad-token : {r : Refusal} {answer : ReadAnswer} → chain (tokenRules v ts) ≡ Refusing r → answer .outcome ≡ Refused r → ReadBy (tokenRules v ts ++ rules) (wordsOf ts) v before answer before
+  read-bad-token q e = first-refuse readSaid _ _ before (tokenRules v ts) rules (ap readSaid e) q
 
   pub read-good-tokens : chain (tokenRules v ts) ≡ Passed → (answer : ReadAnswer) (after : List ℤ) → ReadBy rules (wordsOf ts) v before answer after → ReadBy (tokenRules v ts ++ rules) (wordsOf ts) v before answer after
   read-good-tokens q answer after j = goes-on readSaid _ _ before (tokenRules v ts) rules q j

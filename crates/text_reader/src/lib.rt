@@ -4,7 +4,6 @@ use dimacs::ReadAnswer;
 use dimacs::TextRead;
 use refusal::Refusal;
 use refusal::Verdict;
-use text_tokens::Counts;
 use text_tokens::Pass;
 ghost use mathlib.Core.Path.{_≡_};
 ghost use mathlib.Core.Bool.{false};
@@ -76,27 +75,27 @@ fn refused(number: u32, place: usize) -> ReadAnswer
 fn read_counted(
     text: &[u8],
     from: usize,
-    counts: Counts,
+    pass: Pass,
     variables: u32,
     clauses: u32,
     out: &mut [i32],
 ) -> ReadAnswer
-    requires { ⌜ PassedOver variables (tokensFrom (now text) from) (Pass.Counted counts) × (variables ≤ 1000000) ⌝ }
+    requires { ⌜ PassedOver variables (tokensFrom (now text) from) pass × (variables ≤ 1000000) ⌝ }
     ensures { λ r. ⌜ ReadBy (endRules (length (now (text .entry))) clauses (wordsOf (tokensFrom (now (text .entry)) from)) (length (now (out .entry)))) (wordsOf (tokensFrom (now (text .entry)) from)) variables (now (out .entry)) r (now (out .exit)) ⌝ }
 {
-    if !counts.closed {
+    if !pass.closed {
         return refused(Refusal::OPEN_CLAUSE, text.len());
     }
-    if counts.clauses != clauses as usize {
-        return refused(Refusal::CLAUSE_COUNT, counts.clauses);
+    if pass.clauses != clauses as usize {
+        return refused(Refusal::CLAUSE_COUNT, pass.clauses);
     }
-    if out.len() < counts.words {
-        return refused(Refusal::ROOM, counts.words);
+    if out.len() < pass.words {
+        return refused(Refusal::ROOM, pass.words);
     }
-    fill_words(text, from, counts.words, out);
+    fill_words(text, from, pass.words, out);
     ReadAnswer {
         outcome: TextRead::Read(Tally {
-            words: counts.words,
+            words: pass.words,
             clauses,
             variables,
         }),
@@ -114,12 +113,11 @@ fn read_tokens(
     requires { ⌜ variables ≤ 1000000 ⌝ }
     ensures { λ r. ⌜ ReadBy (tokenRules variables (tokensFrom (now (text .entry)) from) ++ endRules (length (now (text .entry))) clauses (wordsOf (tokensFrom (now (text .entry)) from)) (length (now (out .entry)))) (wordsOf (tokensFrom (now (text .entry)) from)) variables (now (out .entry)) r (now (out .exit)) ⌝ }
 {
-    match text_tokens::judge_tokens(text, from, variables) {
-        Pass::Refused(r) => ReadAnswer {
-            outcome: TextRead::Refused(r),
-        },
-        Pass::Counted(counts) => read_counted(text, from, counts, variables, clauses, out),
+    let pass = text_tokens::judge_tokens(text, from, variables);
+    if !pass.good {
+        return refused(pass.refusal.number, pass.refusal.place);
     }
+    read_counted(text, from, pass, variables, clauses, out)
 }
 
 // Checks 17, 16, 18, 14, 15, 19 and 7 in order; the words then fill the front of `out`, and the answer counts them.

@@ -8,7 +8,7 @@ use native.Mathlib.Omega.{arith}
 use lib.IntN.{ℤ}
 use lib.ListN.{length, length-append, getD, drop}
 use Rattle.lists.specs.Signed.{isZero}
-use Rattle.refusal.specs.Rules.{chain}
+use Rattle.refusal.specs.Rules.{refusal, chain}
 use Rattle.cnf.specs.Words.{zeros, closed}
 use Rattle.cnf.proofs.WordsLaws.{zeros-append, closed-append}
 use Rattle.dimacs.specs.Tokens.{isGap, lead, Token, wordOf, Good, wordsOf}
@@ -16,8 +16,8 @@ use Rattle.dimacs.specs.Rules.{tokenRules, tokensFrom}
 use Rattle.dimacs.proofs.PassLaws.{words-of-append, Behind, over-none, over-gap, over-more, over-all}
 use Rattle.token.specs.declared.Judged.the-variants.{Zero, Literal}
 use Rattle.token.proofs.JudgeLaws.{TokenTold, told-good}
-use Rattle.text_tokens.specs.Passes.{PassedOver}
-use Rattle.text_tokens.specs.declared.Pass.the-variants.{Counted}
+use Rattle.text_tokens.specs.Passes.{passBy, passOf}
+use Rattle.text_tokens.specs.declared.Pass.{Pass}
 
 -- n words and z clauses, of which the last is closed or not
 pub record Counting (v : ℕ) (text : List ℕ) (from i n z : ℕ) (c : Bool) : Type 0 where
@@ -40,6 +40,9 @@ zeros-one ws w b e = zeros-append ws (w ∷ []) ∙ rw e (go b)
 closed-one : (ws : List ℤ) (w : ℤ) → closed (ws ++ (w ∷ [])) ≡ isZero w
 unfolding closed
 closed-one ws w = closed-append ws w []
+
+same-pass : {n n′ z z′ : ℕ} {c c′ : Bool} → n ≡ n′ → z ≡ z′ → c ≡ c′ → _≡_ {A = Pass} (record { good = true; refusal = refusal 0 0; words = n; clauses = z; closed = c }) (record { good = true; refusal = refusal 0 0; words = n′; clauses = z′; closed = c′ })
+same-pass p q r = rw (p, q, r)
 
 module _ (v : ℕ) (text : List ℕ) (from : ℕ) where
   pub counting-none : Counting v text from from 0 0 true
@@ -78,7 +81,8 @@ module _ (v : ℕ) (text : List ℕ) (from : ℕ) where
       pub counting-literal : (e : ℕ) → TokenTold v text i (Literal e) → Counting v text from (e + 1) (n + 1) z false
       counting-literal e t = rw (add-zero z) at (counting-more h g (told-good v text i (t .0) (t .1)) false (t .2) e (t .3))
 
-    pub counting-all : length text ≤ i → PassedOver v (tokensFrom text from) (Counted (record { words = n; clauses = z; closed = c }))
+    pub counting-all : length text ≤ i → _≡_ {A = Pass} (record { good = true; refusal = refusal 0 0; words = n; clauses = z; closed = c }) (passOf v (tokensFrom text from))
     counting-all h =
         let e = over-all v text from i (k .over) h in
-        (ap (λ (ts : List Token). chain (tokenRules v ts)) e ∙ k .over .passed, k .words ∙ ap length (sym e), k .clauses ∙ ap (λ (ts : List Token). zeros (wordsOf ts)) (sym e), k .ends ∙ ap (λ (ts : List Token). closed (wordsOf ts)) (sym e))
+        same-pass (k .words ∙ ap length (sym e)) (k .clauses ∙ ap (λ (ts : List Token). zeros (wordsOf ts)) (sym e)) (k .ends ∙ ap (λ (ts : List Token). closed (wordsOf ts)) (sym e))
+        ∙ sym (ap (passBy (tokensFrom text from)) (ap (λ (ts : List Token). chain (tokenRules v ts)) e ∙ k .over .passed))

@@ -1,2 +1,3 @@
--- The laws of this crate. Assumes nothing.
+-- The laws of this crate that others cite. Assumes nothing.
 pub mod CountLaws
+pub mod PassLaws

@@ -4,29 +4,33 @@ use token::Judged;
 ghost use mathlib.Core.Path.{_≡_};
 ghost use Rattle.refusal.specs.Rules.{refusal};
 ghost use Rattle.dimacs.specs.Rules.{tokensFrom};
-ghost use Rattle.text_tokens.specs.Passes.{PassedOver};
+ghost use Rattle.text_tokens.specs.Passes.{badPass, passOf};
 
-// How many words the tokens are, how many clauses, and whether the last is closed.
-pub struct Counts {
+// What the tokens are: good, and then how many words and clauses they are and whether the last clause is closed; or not, and
+// then the refusal that is due first. What is not said is 0.
+pub struct Pass {
+    pub good: bool,
+    pub refusal: Refusal,
     pub words: usize,
     pub clauses: usize,
     pub closed: bool,
 }
 
-pub enum Pass {
-    Refused(Refusal),
-    Counted(Counts),
-}
-
-fn refuse(number: u32, place: usize) -> Pass
-    ensures { λ r. ⌜ r ≡ Pass.Refused (refusal number place) ⌝ }
+fn refused(number: u32, place: usize) -> Pass
+    ensures { λ r. ⌜ r ≡ badPass (refusal number place) ⌝ }
 {
-    Pass::Refused(Refusal { number, place })
+    Pass {
+        good: false,
+        refusal: Refusal { number, place },
+        words: 0,
+        clauses: 0,
+        closed: false,
+    }
 }
 
 // Judges the tokens from the left, and counts.
 pub fn judge_tokens(text: &[u8], from: usize, variables: u32) -> Pass
-    ensures { λ r. ⌜ PassedOver variables (tokensFrom (now (text .entry)) from) r ⌝ }
+    ensures { λ r. ⌜ r ≡ passOf variables (tokensFrom (now (text .entry)) from) ⌝ }
 {
     let mut i = from;
     let mut words: usize = 0;
@@ -38,10 +42,10 @@ pub fn judge_tokens(text: &[u8], from: usize, variables: u32) -> Pass
         } else {
             match token::judge_token(text, i, variables) {
                 Judged::Misformed => {
-                    return refuse(Refusal::TOKEN, i);
+                    return refused(Refusal::TOKEN, i);
                 }
                 Judged::Beyond => {
-                    return refuse(Refusal::CLAUSE_LITERAL, i);
+                    return refused(Refusal::CLAUSE_LITERAL, i);
                 }
                 Judged::Zero(end) => {
                     words += 1;
@@ -57,9 +61,14 @@ pub fn judge_tokens(text: &[u8], from: usize, variables: u32) -> Pass
             }
         }
     }
-    Pass::Counted(Counts {
+    Pass {
+        good: true,
+        refusal: Refusal {
+            number: 0,
+            place: 0,
+        },
         words,
         clauses,
         closed,
-    })
+    }
 }

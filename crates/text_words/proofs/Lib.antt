@@ -1,2 +1,3 @@
 -- The laws of this crate that others cite. Assumes nothing.
 pub mod SurveyLaws
+pub mod MeasureLaws

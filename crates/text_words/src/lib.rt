@@ -10,7 +10,7 @@ ghost use lib.ListN.{length};
 ghost use Rattle.lists.specs.Signed.{isZero, isNegative};
 ghost use Rattle.refusal.specs.Rules.{refusal};
 ghost use Rattle.text_words.specs.Survey.{VariableCut, Surveyed};
-ghost use Rattle.text_words.specs.Measured.{WordsMeasured};
+ghost use Rattle.text_words.specs.Measured.{badMeasure, measureOf};
 
 // ---- one word
 
@@ -73,43 +73,51 @@ fn survey_words(words: &[i32], variables: u32) -> Survey
 
 // ---- all of it
 
-// How many clauses a word list has, and how many bytes its text has.
+// What a word list is: good, and then how many clauses it has and how many bytes its text has; or not, and then the refusal
+// that is due first. What is not said is 0.
 pub struct Measure {
+    pub good: bool,
+    pub refusal: Refusal,
     pub clauses: u32,
     pub size: u32,
 }
 
-pub enum Measured {
-    Refused(Refusal),
-    Found(Measure),
-}
-
-fn refuse(number: u32, place: usize) -> Measured
-    ensures { λ r. ⌜ r ≡ Measured.Refused (refusal number place) ⌝ }
+fn refused(number: u32, place: usize) -> Measure
+    ensures { λ r. ⌜ r ≡ badMeasure (refusal number place) ⌝ }
 {
-    Measured::Refused(Refusal { number, place })
+    Measure {
+        good: false,
+        refusal: Refusal { number, place },
+        clauses: 0,
+        size: 0,
+    }
 }
 
 // Checks 16, 14 and 15 in order, and measures the text.
-pub fn measure_words(variables: u32, words: &[i32]) -> Measured
-    ensures { λ r. ⌜ WordsMeasured variables (now (words .entry)) r ⌝ }
+pub fn measure_words(variables: u32, words: &[i32]) -> Measure
+    ensures { λ r. ⌜ r ≡ measureOf variables (now (words .entry)) ⌝ }
 {
     if MAX_VARIABLES < variables {
-        return refuse(Refusal::CLAUSE_LIMIT, 0);
+        return refused(Refusal::CLAUSE_LIMIT, 0);
     }
     if MAX_WORDS < words.len() {
-        return refuse(Refusal::CLAUSE_LIMIT, 0);
+        return refused(Refusal::CLAUSE_LIMIT, 0);
     }
     let survey = survey_words(words, variables);
     let checked = word_check::check_counted(variables, words, survey.zeros, survey.beyond != 0);
-    match checked {
-        Verdict::Refused(r) => Measured::Refused(r),
-        Verdict::Passed => Measured::Found(Measure {
-            clauses: survey.zeros,
-            size: 8
-                + decimal_width::short_width(variables)
-                + decimal_width::short_width(survey.zeros)
-                + survey.size,
-        }),
+    if let Verdict::Refused(r) = checked {
+        return refused(r.number, r.place);
+    }
+    Measure {
+        good: true,
+        refusal: Refusal {
+            number: 0,
+            place: 0,
+        },
+        clauses: survey.zeros,
+        size: 8
+            + decimal_width::short_width(variables)
+            + decimal_width::short_width(survey.zeros)
+            + survey.size,
     }
 }

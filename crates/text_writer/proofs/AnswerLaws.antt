@@ -1,6 +1,6 @@
 -- How `write_text` comes to its answer: the words are refused; or they are well, and the buffer is too short or not. Assumes
 -- nothing.
-use mathlib.Core.Path.{_≡_, refl}
+use mathlib.Core.Path.{_≡_, refl, ap}
 use mathlib.Core.List.{List}
 use Prim.Native.Nat.{ℕ, _≤_, _<_}
 use native.Mathlib.Omega.{arith}
@@ -15,12 +15,13 @@ use Rattle.refusal.proofs.AnsweredLaws.{by-refusal, by-result, first-refuse, go
 use Rattle.cnf.specs.Lent.{wordRules}
 use Rattle.dimacs.specs.Text.{textOf}
 use Rattle.dimacs.specs.Write.{writtenSaid, WritePromise}
+use Rattle.dimacs.specs.declared.WriteAnswer.{WriteAnswer}
 use Rattle.dimacs.specs.declared.TextWritten.the-variants.{Written, Refused}
 use Rattle.dimacs.proofs.WriteLaws.{roomRules}
 
 module _ (v : ℕ) (ws : List ℤ) (before : List ℕ) where
-  pub write-refuses : {r : Refusal} → chain (wordRules v ws) ≡ Refusing r → WritePromise v ws before (record { outcome = Refused r }) before
-  write-refuses q = first-refuse writtenSaid _ _ before (wordRules v ws) (roomRules v ws (length before)) refl q
+  pub write-refuses : {r : Refusal} {answer : WriteAnswer} → chain (wordRules v ws) ≡ Refusing r → answer .outcome ≡ Refused r → WritePromise v ws before answer before
+  write-refuses q e = first-refuse writtenSaid _ _ before (wordRules v ws) (roomRules v ws (length before)) (ap writtenSaid e) q
 
   pub write-short : {n : ℕ} → chain (wordRules v ws) ≡ Passed → n ≡ length (textOf v ws) → length before < n → WritePromise v ws before (record { outcome = Refused (refusal 7 n) }) before
   write-short q e h =

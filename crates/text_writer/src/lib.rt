@@ -4,7 +4,6 @@ use dimacs::TextWritten;
 use dimacs::WriteAnswer;
 use refusal::Refusal;
 use refusal::Verdict;
-use text_words::Measured;
 ghost use mathlib.Core.Path.{_≡_};
 ghost use mathlib.Core.Bool.{cond};
 ghost use Prim.Native.Nat.{_+_, _≤_, _<_};
@@ -108,12 +107,9 @@ fn write_checked(
 pub fn write_text(variables: u32, words: &[i32], out: &mut [u8]) -> WriteAnswer
     ensures { λ r. ⌜ WritePromise variables (now (words .entry)) (now (out .entry)) r (now (out .exit)) ⌝ }
 {
-    match text_words::measure_words(variables, words) {
-        Measured::Refused(r) => WriteAnswer {
-            outcome: TextWritten::Refused(r),
-        },
-        Measured::Found(measure) => {
-            write_checked(variables, words, measure.clauses, measure.size, out)
-        }
+    let measure = text_words::measure_words(variables, words);
+    if !measure.good {
+        return refused(measure.refusal.number, measure.refusal.place);
     }
+    write_checked(variables, words, measure.clauses, measure.size, out)
 }

@@ -19,7 +19,7 @@ use Rattle.text_reader.proofs.read_counted.Tie as tie
 abbrev ws : tie.Start → List ℤ
 ws s = wordsOf (tokensFrom (s .args .text .now) (s .args .from))
 
-many : (s : tie.Start) → s .args .counts .words ≡ length (ws s)
+many : (s : tie.Start) → s .args .pass .words ≡ length (ws s)
 many s = s .pre .0 .1 ∙ sym (words-of-length (tokensFrom (s .args .text .now) (s .args .from)))
 
 is-closed : (c : tie.Else1) → closed (ws (c .before .before .before)) ≡ true

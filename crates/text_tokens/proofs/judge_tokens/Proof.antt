@@ -1,6 +1,6 @@
 -- `text_tokens::judge_tokens` meets its contract: before each turn the tokens up to i are good, and counted. Assumes
 -- nothing.
-use mathlib.Core.Path.{_≡_, sym, _∙_}
+use mathlib.Core.Path.{_≡_, sym, _∙_, ap}
 use mathlib.Core.Bool.{false}
 use Prim.Native.Nat.{ℕ, _+_, _-_, _≤_}
 use native.Mathlib.Omega.{arith}
@@ -12,6 +12,7 @@ use Rattle.dimacs.proofs.PassLaws.{over-misformed, over-beyond}
 use Rattle.token.specs.declared.Judged.{Judged}
 use Rattle.token.specs.declared.Judged.the-variants.{Misformed, Beyond, Zero, Literal}
 use Rattle.token.proofs.JudgeLaws.{TokenTold, token-told}
+use Rattle.text_tokens.specs.Passes.{passBy}
 use Rattle.text_tokens.proofs.CountLaws.{Counting, counting-none, counting-gap, counting-zero, counting-literal, counting-all}
 use Rattle.text_tokens.proofs.judge_tokens.Statement.{statement}
 use Rattle.text_tokens.proofs.judge_tokens.Tie as tie
@@ -60,7 +61,7 @@ judge-tokens-spec =
     let t = c .before in
     let k = t .before .before in
     let l = k .before .before .before .before in
-    rw (c .refuse .ensures) (over-misformed _ _ _ _ (l .before .loop .inv .over) (l .loop-test .taken) (no-gap (k .before)) (judged k Misformed (t .enum-told .given .1))))
+    c .refused .ensures ∙ sym (ap (passBy _) (over-misformed _ _ _ _ (l .before .loop .inv .over) (l .loop-test .taken) (no-gap (k .before)) (judged k Misformed (t .enum-told .given .1)))))
     (λ c. search needs)
     (λ c κs. search needs)
     (λ c.
@@ -68,7 +69,7 @@ judge-tokens-spec =
     let k = t .before .before in
     let l = k .before .before .before .before in
     let j = judged k Beyond (t .enum-told2 .given .1) in
-    rw (c .refuse2 .ensures) (over-beyond _ _ _ _ (l .before .loop .inv .over) (l .loop-test .taken) (no-gap (k .before)) (j .0) (j .1)))
+    c .refused2 .ensures ∙ sym (ap (passBy _) (over-beyond _ _ _ _ (l .before .loop .inv .over) (l .loop-test .taken) (no-gap (k .before)) (j .0) (j .1))))
     (λ c. search needs)
     (λ c. let l = c .before .before .before .before .before .before .before in record { fits = omega (arith, l .before .loop .inv .less, l .loop-test .taken) })
     (λ c. let l = c .before .before .before .before .before .before .before in record { fits = omega (arith, l .before .loop .inv .less, l .before .loop .inv .fewer, l .loop-test .taken) })

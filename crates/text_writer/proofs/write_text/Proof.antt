@@ -1,25 +1,18 @@
 -- `text_writer::write_text` meets its contract: the words are refused, or have passed and are written. Assumes nothing.
-use mathlib.Core.Path.{_≡_, subst}
 use borrow.Author.Needs.{needs}
-use Rattle.text_words.specs.Measured.{WordsMeasured}
-use Rattle.text_words.specs.declared.Measured.{Measured}
-use Rattle.text_words.specs.declared.Measured.the-variants.{Refused, Found}
+use borrow.Author.Tests.{not-true, not-false}
+use Rattle.text_words.proofs.MeasureLaws.{measure-bad, measure-good}
 use Rattle.text_writer.proofs.AnswerLaws.{write-refuses}
 use Rattle.text_writer.proofs.write_text.Statement.{statement}
 use Rattle.text_writer.proofs.write_text.Tie as tie
-
--- what was found of the words
-found : (c : tie.After-measure-words) (m : Measured) → c .measure-words .result ≡ m → let s = c .before .before .args in WordsMeasured (s .variables) (s .words .now) m
-found c m e = let s = c .before .before .args in subst (WordsMeasured (s .variables) (s .words .now)) e (c .measure-words .ensures)
 
 pub write-text-spec : {M : Type 1} → statement M
 write-text-spec =
     tie.close
     (tie.spec
     (λ c κs. search needs)
-    (λ c. search needs)
-    (λ c. search needs)
-    (λ c κs. let m = c .before .before in found (m .before .before) (Found (m .measure .given .0 .0)) (m .measure .given .1))
-    (λ c. let r = c .before in write-refuses _ _ _ (found (r .before .before) (Refused (r .r .given .0 .0)) (r .r .given .1)))
+    (λ c κs. search needs)
+    (λ c. let t = c .before in let m = t .before .before in write-refuses _ _ _ (measure-bad _ _ _ (m .measure-words .ensures) (not-true _ (t .if1 .taken))) (c .refused .ensures))
+    (λ c κs. let e = c .before in measure-good _ _ _ (e .before .before .measure-words .ensures) (not-false _ (e .if1 .left)))
     (λ c. search needs)
     (λ c. search needs))
