@@ -77,7 +77,7 @@ fn put_digits(n: u32, out: &mut [u8], at: usize) -> usize
 pub fn write_often(n: u32, out: &mut [u8], at: usize) -> usize
     ensures { λ r. ⌜ PutPromise (digits n) at (now (out .entry)) r (now (out .exit)) ⌝ }
 {
-    if decimal_writer::has_room(out.len(), at, 10) {
+    if room::has_room(out.len(), at, 10) {
         return put_digits(n, out, at);
     }
     decimal_writer::write(n as u64, out, at)

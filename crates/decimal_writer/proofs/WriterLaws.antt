@@ -1,29 +1,14 @@
--- Laws of writing a decimal: whether there is room for it, and its digits stored from the last on. Assumes nothing.
-use mathlib.Core.Path.{_≡_, refl, sym, ap, _∙_}
-use mathlib.Core.Bool.{Bool, true, false}
+-- Laws of writing a decimal: its digits stored from the last on. Assumes nothing.
+use mathlib.Core.Path.{_≡_, sym, ap, _∙_}
 use mathlib.Core.List.{List, [], _∷_, _++_, append-nil}
 use Prim.Native.Nat.{ℕ, _+_, _-_, _/_, _%_, _^_, _≤_, _<_}
 use native.Mathlib.Omega.{arith}
-use lib.Dec.{leb}
 use lib.ListN.{length, length-append, set}
 use lib.Seq.{append-snoc}
-use borrow.Author.Tests.{leb-true, leb-false, le-leb, lt-leb}
 use Rattle.lists.specs.Buffer.{Wrote}
 use Rattle.lists.proofs.BufferLaws.{none, then-before, wrote-as, wrote-next, kept}
 use Rattle.decimal.specs.Digits.{digits}
 use Rattle.decimal.proofs.DigitsLaws.{digits-small, digits-step, length-small, length-step, length-pos}
-
--- ---- room
-
--- tested without a sum that might not fit
-pub room-test : (at count size : ℕ) → count ≤ size → leb at (size - count) ≡ leb (at + count) size
-room-test at count size h = go (leb at (size - count)) refl
-  where
-    go : (t : Bool) → leb at (size - count) ≡ t → t ≡ leb (at + count) size
-    go true e = let l = leb-true at (size - count) e in sym (le-leb (at + count) size (omega arith))
-    go false e = let l = leb-false at (size - count) e in sym (lt-leb (at + count) size (omega arith))
-
--- ---- from the last on
 
 -- the digits of n are stored from the last on, down to i; those of m are left
 pub record Storing (l : List ℕ) (at n : ℕ) (l′ : List ℕ) (m i : ℕ) : Type 0 where

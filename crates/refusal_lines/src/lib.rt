@@ -23,7 +23,7 @@ fn put_named(name: &[u8], n: u64, out: &mut [u8], at: usize) -> usize
     requires { ⌜ at + length (namedLine (now name) n) ≤ length (now out) ⌝ }
     ensures { λ r. ⌜ Wrote (now (out .entry)) at (namedLine (now (name .entry)) n) (now (out .exit)) r ⌝ }
 {
-    let a = at + decimal_writer::put(name, out, at);
+    let a = at + byte_writer::put(name, out, at);
     let b = a + decimal_writer::write(n, out, a);
     out[b] = b'\n';
     b + 1
@@ -49,7 +49,7 @@ pub fn print_refusal(refusal: Refusal, out: &mut [u8]) -> DeskAnswer
 {
     let mut lines = no_lines();
     let n = put_refusal(refusal, &mut lines);
-    let bytes = decimal_writer::put(&lines[..n], out, 0);
+    let bytes = byte_writer::put(&lines[..n], out, 0);
     if out.len() < bytes {
         return DeskAnswer {
             outcome: DeskRun::Refused(Refusal {

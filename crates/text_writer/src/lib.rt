@@ -61,7 +61,7 @@ fn put_header(variables: u32, clauses: u32, out: &mut [u8]) -> usize
     requires { ⌜ length (headerLine variables clauses) ≤ length (now out) ⌝ }
     ensures { λ r. ⌜ Wrote (now (out .entry)) 0 (headerLine variables clauses) (now (out .exit)) r ⌝ }
 {
-    let a = decimal_writer::put(&HEAD, out, 0);
+    let a = byte_writer::put(&HEAD, out, 0);
     let b = a + decimal_writer::write(variables as u64, out, a);
     out[b] = b' ';
     let c = b + 1;

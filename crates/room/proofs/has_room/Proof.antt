@@ -1,11 +1,11 @@
--- `decimal_writer::has_room` meets its contract. Assumes nothing.
+-- `room::has_room` meets its contract. Assumes nothing.
 use mathlib.Core.Path.{sym}
 use Prim.Native.Nat.{_+_}
 use native.Mathlib.Omega.{arith}
 use borrow.Author.Tests.{lt-leb}
-use Rattle.decimal_writer.proofs.WriterLaws.{room-test}
-use Rattle.decimal_writer.proofs.has_room.Statement.{statement}
-use Rattle.decimal_writer.proofs.has_room.Tie as tie
+use Rattle.room.proofs.RoomLaws.{room-test}
+use Rattle.room.proofs.has_room.Statement.{statement}
+use Rattle.room.proofs.has_room.Tie as tie
 
 pub has-room-spec : {M : Type 1} → statement M
 has-room-spec =

@@ -1,4 +1,4 @@
--- `decimal_writer::put` meets its contract: before turn k the first k bytes are stored. Assumes nothing.
+-- `byte_writer::put` meets its contract: before turn k the first k bytes are stored. Assumes nothing.
 use mathlib.Core.List.{[], _∷_}
 use Prim.Native.Nat.{_+_, _-_, _≤_}
 use native.Mathlib.Omega.{arith}
@@ -9,8 +9,8 @@ use Rattle.lists.specs.Buffer.{Wrote}
 use Rattle.lists.proofs.UptoLaws.{list-whole}
 use Rattle.lists.proofs.BufferLaws.{put, begin, turn, finish, wrote-as, wrote-next, kept}
 use Rattle.decimal.proofs.BytesLaws.{put-none, put-all}
-use Rattle.decimal_writer.proofs.put.Statement.{statement}
-use Rattle.decimal_writer.proofs.put.Tie as tie
+use Rattle.byte_writer.proofs.put.Statement.{statement}
+use Rattle.byte_writer.proofs.put.Tie as tie
 
 abbrev Inv-loop : tie.InvT-loop
 Inv-loop key out₀ at n k₀ out k = (k ≤ length key) × Wrote out₀ at (upTo k (λ j. getD key j 0 ∷ [])) out (at + k)
