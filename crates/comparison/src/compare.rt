@@ -1,11 +1,11 @@
 // The encoder and the judge, each compared with the second one. Assumes nothing.
 use cnf::Encoded;
 use judge::Judged;
+use numbers::put_word;
+use numbers::sum;
+use numbers::unlike;
+use numbers::unlike_word;
 use second::builds::Verdict;
-use second::numbers::put_word;
-use second::numbers::sum;
-use second::numbers::unlike;
-use second::numbers::unlike_word;
 use second::words::Expected;
 
 // What no clause has as a word.

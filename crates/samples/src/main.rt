@@ -3,7 +3,7 @@
 mod scope_samples;
 mod text_samples;
 
-use second::numbers::sum;
+use numbers::sum;
 
 fn main() {
     let mut words = [0i32; 2048];

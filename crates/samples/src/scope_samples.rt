@@ -6,10 +6,10 @@ use comparison::compare::refused;
 use comparison::compare::unlike_answers;
 use comparison::compare::unlike_verdicts;
 use model::ModelRead;
+use numbers::entry;
+use numbers::sum;
+use numbers::unlike;
 use second::builds::Verdict;
-use second::numbers::entry;
-use second::numbers::sum;
-use second::numbers::unlike;
 use show::group;
 
 // ---- diagrams

@@ -1,9 +1,9 @@
 // 01's samples of clause text: what came, and what is expected. Assumes nothing.
 use crate::scope_samples::end_case;
 use dimacs::TextRead;
-use second::numbers::sum;
-use second::numbers::unlike;
-use second::numbers::unlike_word;
+use numbers::sum;
+use numbers::unlike;
+use numbers::unlike_word;
 use show::group;
 use show::read_open;
 

@@ -2,10 +2,10 @@
 // nothing.
 use crate::checker;
 use crate::checker::Due;
-use crate::numbers::difference;
-use crate::numbers::entry;
-use crate::numbers::put_word;
-use crate::numbers::sum;
+use numbers::difference;
+use numbers::entry;
+use numbers::put_word;
+use numbers::sum;
 
 // What the judge must answer: a refusal's number (0 is none) and place, and 1 where the build is allowed.
 pub struct Verdict {

@@ -1,8 +1,8 @@
 // A second check of a lent diagram, numbers 1 to 6: each entry judged by itself, straight from the scope's words. It uses nothing
 // of the library. Assumes nothing.
-use crate::numbers::difference;
-use crate::numbers::entry;
-use crate::numbers::sum;
+use numbers::difference;
+use numbers::entry;
+use numbers::sum;
 
 // A refusal's number and place; number 0 is none.
 pub struct Due {

@@ -3,5 +3,4 @@
 // promise no more: a difference shows that one of the two is wrong. Assumes nothing.
 pub mod builds;
 pub mod checker;
-pub mod numbers;
 pub mod words;

@@ -1,14 +1,14 @@
 // A second encoder: each word from its index, by arithmetic on where its stretch of the list begins. It writes nothing: it is
 // held against words that are there. It uses nothing of the library. Assumes nothing.
 use crate::checker;
-use crate::numbers::difference;
-use crate::numbers::entry;
-use crate::numbers::product;
-use crate::numbers::quotient;
-use crate::numbers::remainder;
-use crate::numbers::sum;
-use crate::numbers::unlike;
-use crate::numbers::unlike_word;
+use numbers::difference;
+use numbers::entry;
+use numbers::product;
+use numbers::quotient;
+use numbers::remainder;
+use numbers::sum;
+use numbers::unlike;
+use numbers::unlike_word;
 
 // What the encoder must answer, and how many of the words that it wrote are not the second encoder's.
 pub struct Expected {

@@ -1,10 +1,10 @@
--- `second::numbers::product` is safe and ends: both factors are below the limit, whose square is what a number holds.
+-- `numbers::product` is safe and ends: both factors are below the limit, whose square is what a number holds.
 -- Assumes nothing.
 use native.Mathlib.Nat.{mul-le-mul-left}
 use native.Mathlib.Omega.{arith}
 use borrow.Author.Needs.{needs}
-use Rattle.second.proofs.numbers.product.Statement.{statement}
-use Rattle.second.proofs.numbers.product.Tie as tie
+use Rattle.numbers.proofs.product.Statement.{statement}
+use Rattle.numbers.proofs.product.Tie as tie
 
 pub product-spec : {M : Type 1} → statement M
 product-spec =

@@ -59,22 +59,6 @@ fn wide(x: u32) -> usize {
     x as usize
 }
 
-// Puts a number at an index, if the list has it.
-pub fn put(list: &mut [u32], i: usize, x: usize) {
-    if list.len() <= i {
-        return;
-    }
-    list[i] = (x % LIMIT) as u32;
-}
-
-// The first n entries of a list, or all.
-pub fn front(list: &[u32], n: usize) -> &[u32] {
-    if list.len() <= n {
-        return list;
-    }
-    &list[..n]
-}
-
 // 1 where the word at an index is another, or there is none.
 pub fn unlike_word(words: &[i32], at: usize, word: i32) -> usize {
     if words.len() <= at {
