@@ -10,7 +10,7 @@ ghost use lib.ListN.{length, replicate};
 ghost use Rattle.lists.specs.Upto.{countTo};
 ghost use Rattle.lists.specs.First.{first};
 ghost use Rattle.naming.specs.Naming.{markOf, again, namesRead};
-ghost use Rattle.naming.specs.Marks.{namesValue, valueAt, isMarked, noted, Marks, NotedTo, EachNames};
+ghost use Rattle.naming.specs.Marks.{namesValue, valueAt, Marks, NotedTo, EachNames};
 
 // As many literals are counted together.
 const BLOCK: usize = 64;
@@ -26,22 +26,6 @@ fn no_marks() -> [u8; naming::VALUES]
     ensures { λ r. ⌜ r ≡ replicate 2048 0 ⌝ }
 {
     [0u8; naming::VALUES]
-}
-
-// Marks the variable x, unless it is no value variable or has a mark; answers whether it had one.
-fn note(marks: &mut [u8; naming::VALUES], values: usize, x: usize, mark: u8) -> bool
-    requires { ⌜ (values ≤ 2048) × (1 ≤ x) × (length (now marks) ≡ 2048) ⌝ }
-    ensures { λ r. ⌜ r ≡ isMarked values x (now (marks .entry)) ⌝ }
-    ensures { λ r. ⌜ now (marks .exit) ≡ noted values x mark (now (marks .entry)) ⌝ }
-{
-    if values < x {
-        return false;
-    }
-    if marks[x - 1] != 0 {
-        return true;
-    }
-    marks[x - 1] = mark;
-    false
 }
 
 // Whether a literal names a value variable, true or false: it is one from -D to D (and 0 is number 10's).
@@ -89,7 +73,7 @@ fn search_again(
     let mut k = from;
     while k < end {
         let literal = literals[k];
-        if note(
+        if noting::note(
             marks,
             values,
             variable::variable_of(literal) as usize,

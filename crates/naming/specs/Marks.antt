@@ -28,6 +28,13 @@ isMarked D x ms = leb x D && not (eqb (getD ms (x - 1) 0) 0)
 unfoldable pub noted : ℕ → ℕ → ℕ → List ℕ → List ℕ
 noted D x k ms = cond (leb x D && eqb (getD ms (x - 1) 0) 0) (set ms (x - 1) k) ms
 
+-- the same two of any number, of which 0 is no variable's
+abbrev pub hasMark : ℕ → ℕ → List ℕ → Bool
+hasMark D x ms = leb 1 x && isMarked D x ms
+
+abbrev pub withMark : ℕ → ℕ → ℕ → List ℕ → List ℕ
+withMark D x k ms = cond (leb 1 x) (noted D x k ms) ms
+
 -- the marks are what the first k literals say of the variables 1 to D, and 0 for those beyond
 pub record Marks (D : ℕ) (m : List ℤ) (k : ℕ) (ms : List ℕ) : Type 0 where
   pub whole : length ms ≡ 2048

@@ -6,6 +6,7 @@ use Prim.Native.Nat.{ℕ, _+_, _-_, _≤_}
 use native.Mathlib.Omega.{arith}
 use lib.IntN.{ℤ, natAbs}
 use borrow.Author.Needs.{needs}
+use borrow.Author.Tests.{le-leb}
 use mir.Syntax.{w32}
 use mir.Val.{toZ, ofZ}
 use mir.ValLaws.{toZ-ofZ}
@@ -45,7 +46,7 @@ named c = c .variable-of .ensures ∙ ap natAbs (back (c .before .before))
 -- what a turn finds, and what it leaves
 noting : (c : tie.After-note Inv-loop μ-loop) → let l = c .before .before .before .before .before in let D = l .before .before .args .values in let ms = l .before .loop .marks in
     (c .note .result ≡ isMarked D (variable (m l) (k l)) ms) × (c .note .last .0 ≡ noted D (variable (m l) (k l)) (markOf (literal (m l) (k l))) ms)
-noting c = rw (named (c .before .before), c .before .mark-of .ensures, back (c .before .before .before .before)) at (c .note .ensures)
+noting c = rw (named (c .before .before), c .before .mark-of .ensures, back (c .before .before .before .before), le-leb 1 (variable (m (c .before .before .before .before .before)) (k (c .before .before .before .before .before))) (some (c .before .before .before .before .before))) at (c .note .ensures)
 
 marked : (c : tie.After-note Inv-loop μ-loop) → let l = c .before .before .before .before .before in c .note .result ≡ again (l .before .before .args .values) (m l) (k l)
 marked c = let l = c .before .before .before .before .before in noting c .0 ∙ marked-again (l .before .loop .inv .2) (l .before .before .pre .0 .0) (some l)
@@ -68,7 +69,7 @@ search-again-spec =
     (λ c κs. search needs)
     (λ c. search needs)
     (λ c κs. search needs)
-    (λ c κs. let l = c .before .before .before .before in (l .before .before .pre .0 .0, omega (arith, named (c .before), some l), l .before .loop .inv .2 .whole))
+    (λ c κs. search needs)
     (λ c. let l = c .before .before .before .before .before .before in (stop _ _ _ (l .before .loop .inv .1) (sym (marked (c .before)) ∙ c .if1 .taken) (l .loop-test .taken), λ e. absurd (found-one _ e refl)))
     (λ c. search needs)
     (λ c. search needs)
