@@ -1,40 +1,36 @@
--- A layer's nodes and edges stand in one stretch, and what its edges may lead to in one range. Assumes nothing.
+-- What the edges of a layer may lead to stands in one range, and the layer's part of the targets is searched by it. Assumes nothing.
 use mathlib.Core.Path.{_≡_, refl, sym, _∙_, ap}
 use mathlib.Core.Bool.{Bool, true, false, not, cond, _&&_, _||_}
-use mathlib.Core.List.{List}
+use mathlib.Core.List.{List, [], _∷_, _++_, append-assoc}
 use mathlib.Core.Logic.{⊎-elim}
-use Prim.Native.Nat.{ℕ, zero, suc, _+_, _-_, _*_, _≤_, _<_}
-use native.Mathlib.Nat.{le-refl}
+use Prim.Native.Nat.{ℕ, zero, suc, _+_, _-_, _≤_, _<_}
 use native.Mathlib.Omega.{arith}
 use lib.ListN.{length, getD, take, drop}
 use lib.Seq.{getD-take, getD-drop}
 use lib.Dec.{ltb, leb, eqb}
 use borrow.Author.Tests.{lt-ltb, le-ltb, le-leb, lt-leb, eq-eqb, ltb-true, leb-true, leb-false, eqb-true}
-use Rattle.lists.specs.Upto.{sumTo, lastTo}
+use Rattle.lists.specs.Upto.{lastTo}
 use Rattle.lists.specs.First.{first}
 use Rattle.lists.specs.declared.Found.{Found}
-use Rattle.lists.proofs.UptoLaws.{below-or-not, sum-stretch, last-is, up-to-last}
+use Rattle.lists.proofs.UptoLaws.{below-or-not, last-is, up-to-last}
 use Rattle.lists.proofs.FirstLaws.{first-agrees}
+use Rattle.refusal.specs.Rules.{rule}
 use Rattle.stray.specs.Stray.{stray}
 use Rattle.stray.specs.declared.Range.{Range}
-use Rattle.diagram.specs.Lent.{Lent, lent, options, nodes, domain, layer, width, firstEdge, leads}
+use Rattle.diagram.specs.Lent.{Lent, lent, options, nodes, layer, firstEdge, edges, leads}
 use Rattle.diagram.specs.Sound.{Shaped}
-use Rattle.diagram.specs.Rules.{permits, owner, badTarget}
+use Rattle.diagram.specs.Rules.{permits, owner, badTarget, shapeRules, targetRules, checkRules}
 use Rattle.diagram.proofs.ShapedLaws.{layer-within, layers-rise, edge-sums}
 use Rattle.diagram.proofs.RangeLaws.{part-length}
-use Rattle.layer_targets.specs.Layers.{NoneAbove, LayerEnd, RangeOf}
+use Rattle.layer_ends.specs.Layers.{LayerEnd}
+use Rattle.layer_ends.proofs.LayerLaws.{same-layer}
+use Rattle.edge_counts.specs.Counts.{countRule, countRules}
+use Rattle.layer_targets.specs.Layers.{RangeOf}
 
--- nodes of layers up to i: none yet, and then some more
-pub none-yet : (ls : List ℕ) (from i : ℕ) → from ≤ length ls → NoneAbove ls from i from
-none-yet ls from i h = record { from-on = le-refl from; to-last = h; until = λ v l k. absurd (omega arith) }
-
-pub some-more : {ls : List ℕ} {from i v : ℕ} (w : ℕ) → NoneAbove ls from i v → v ≤ w → w ≤ length ls → ((u : ℕ) → v ≤ u → u < w → getD ls u 0 ≤ i) → NoneAbove ls from i w
-some-more {v = v} w a l h f =
-    record {
-      from-on = omega (arith, a .from-on);
-      to-last = h;
-      until = λ u p q. ⊎-elim (λ (k : u < v). a .until u p k) (λ (k : v ≤ u). f u k q) (below-or-not u v);
-    }
+-- the targets' rule comes after the others
+pub check-split : (d : Lent) → countRules d ++ (rule 6 (first (badTarget d) (edges d)) ∷ []) ≡ checkRules d
+unfolding checkRules targetRules countRules
+check-split d = append-assoc (shapeRules d) (countRule d) (rule 6 (first (badTarget d) (edges d)) ∷ [])
 
 -- the targets have no part in where an edge may lead
 pub same-range : (ds ls ts us : List ℕ) (i : ℕ) (r : Range) → RangeOf (lent ds ls ts) i r → RangeOf (lent ds ls us) i r
@@ -47,24 +43,6 @@ same-range ds ls ts us i r f t = f t ∙ ap not (same t)
     same (suc (suc w)) = refl
 
 module _ (d : Lent) (s : Shaped d) (v next : ℕ) (hv : v < nodes d) (end : LayerEnd (d .layers) v (layer d v) next) where
-  pub moves-on : v < next
-  moves-on = ⊎-elim (λ (l : v < next). l) (λ (l : next ≤ v). absurd (stays l)) (below-or-not v next)
-    where
-      stays : next ≤ v → ⊥
-      stays l =
-          let e : next ≡ v = omega (arith, end .none-above .from-on) in
-          let a : layer d v < layer d next = end .above (omega arith) in
-          omega (arith, ap (layer d) e)
-
-  same-layer : (w : ℕ) → v ≤ w → w < next → layer d w ≡ layer d v
-  same-layer w l k = omega (arith, end .none-above .until w l k, end .none-above .to-last, layers-rise d s v w l (let q : next ≤ nodes d = end .none-above .to-last in omega arith))
-
-  pub stretch : firstEdge d v + (next - v) * width d v ≡ firstEdge d next
-  unfolding firstEdge
-  stretch =
-      let e : v + (next - v) ≡ next = omega (arith, end .none-above .from-on) in
-      sym (sum-stretch (width d) (width d v) v (next - v) (λ w l k. ap (λ (i : ℕ). domain d (i - 1)) (same-layer w l (omega arith)))) ∙ ap (λ (n : ℕ). sumTo n (width d)) e
-
   -- an edge of the stretch is of a node of the layer
   of-layer : (e : ℕ) → firstEdge d v ≤ e → e < firstEdge d next → layer d (owner d e) ≡ layer d v
   unfolding owner
@@ -77,7 +55,7 @@ module _ (d : Lent) (s : Shaped d) (v next : ℕ) (hv : v < nodes d) (end : Laye
       of w =
           let o : ℕ = lastTo (nodes d) begins in
           let b : firstEdge d o ≤ e = leb-true (firstEdge d o) e (w .1) in
-          same-layer o (up-to-last begins (nodes d) v hv (le-leb (firstEdge d v) e low))
+          same-layer d s v next hv end o (up-to-last begins (nodes d) v hv (le-leb (firstEdge d v) e low))
           (⊎-elim (λ (l : o < next). l) (λ (l : next ≤ o). absurd (let q : firstEdge d next ≤ firstEdge d o = edge-sums d .rise next o l in omega arith)) (below-or-not o next))
 
       none : ((w : ℕ) → w < nodes d → begins w ≡ false) → layer d (lastTo (nodes d) begins) ≡ layer d v

@@ -1,31 +1,20 @@
--- `layer_targets::check_all` meets its contract: the rules are gone through in two parts. Assumes nothing.
-use mathlib.Core.Path.{_≡_, refl, sym, _∙_, ap}
-use mathlib.Core.List.{List, []}
-use Prim.Native.Nat.{ℕ}
+-- `layer_targets::check_all` meets its contract: the rules before the targets', and then theirs. Assumes nothing.
+use mathlib.Core.Path.{_≡_, sym, _∙_, ap}
+use mathlib.Core.List.{[], _∷_}
 use borrow.Author.Needs.{needs}
-use Rattle.refusal.specs.Rules.{chain}
-use Rattle.refusal.proofs.RulesLaws.{refuses, passes, passed}
-use Rattle.diagram.specs.Lent.{lent}
-use Rattle.diagram.specs.Rules.{badLayer, optionRules, nodeRules, shapeRules, checkRules}
-use Rattle.diagram.proofs.ShapedLaws.{shaped}
+use Rattle.lists.specs.First.{first}
+use Rattle.refusal.specs.Rules.{rule, chain}
+use Rattle.refusal.proofs.RulesLaws.{refuses, passes}
+use Rattle.diagram.specs.Lent.{Lent, lent, edges}
+use Rattle.diagram.specs.Rules.{badTarget}
+use Rattle.edge_counts.specs.Counts.{countRules}
+use Rattle.edge_counts.proofs.CountLaws.{counts-passed}
+use Rattle.layer_targets.proofs.LayerLaws.{check-split}
 use Rattle.layer_targets.proofs.check_all.Statement.{statement}
 use Rattle.layer_targets.proofs.check_all.Tie as tie
 
--- the rules of the shape read no targets
-same-shape-rules : (ds ls ts : List ℕ) → shapeRules (lent ds ls []) ≡ shapeRules (lent ds ls ts)
-unfolding optionRules nodeRules badLayer
-same-shape-rules ds ls ts = refl
-
-shape-said : (c : tie.After-check-shape) → let s = c .before .before .before .before .args in c .check-shape .result ≡ chain (shapeRules (lent (s .domains .now) (s .layers .now) (s .targets .now)))
-shape-said c = c .check-shape .ensures ∙ ap chain (same-shape-rules _ _ _)
-
-returns : tie.Need-returns
-unfolding checkRules
-returns c = refuses _ _ (shape-said (c .before .before)) (c .enum-told .given .1)
-
-returns-2 : tie.Need-returns-2
-unfolding checkRules
-returns-2 c = let o = c .before in passes _ _ (shape-said (o .before .before)) (o .enum-told2 .given .1) (c .check-targets .ensures)
+abbrev d : tie.After-check-counts → Lent
+d c = let s = c .before .before .before .before .args in lent (s .domains .now) (s .layers .now) (s .targets .now)
 
 pub check-all-spec : {M : Type 1} → statement M
 check-all-spec =
@@ -33,7 +22,11 @@ check-all-spec =
     (tie.spec
     (λ c κs. search needs)
     (λ c. search needs)
-    returns
+    (λ c. let j = c .before .before in refuses (countRules (d j)) (rule 6 (first (badTarget (d j)) (edges (d j))) ∷ []) (j .check-counts .ensures) (c .enum-told .given .1) ∙ ap chain (check-split (d j)))
     (λ c. search needs)
-    (λ c κs. let w = passed _ _ (sym (shape-said (c .before .before)) ∙ c .enum-told2 .given .1) in shaped _ (w .0) (w .1))
-    returns-2)
+    (λ c κs. let j = c .before .before in counts-passed (d j) (sym (j .check-counts .ensures) ∙ c .enum-told2 .given .1))
+    (λ c κs. search needs)
+    (λ c.
+    let f = c .before in
+    let j = f .before .before .before in
+    passes (countRules (d j)) (rule 6 (first (badTarget (d j)) (edges (d j))) ∷ []) (j .check-counts .ensures) (f .before .enum-told2 .given .1) (rw (← (f .first-bad-target .ensures)) (c .verdict-of .ensures)) ∙ ap chain (check-split (d j))))

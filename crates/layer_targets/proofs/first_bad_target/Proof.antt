@@ -8,12 +8,14 @@ use borrow.Author.Needs.{needs}
 use Rattle.lists.specs.First.{first}
 use Rattle.lists.specs.declared.Found.the-variants.{Nothing}
 use Rattle.lists.proofs.FirstLaws.{start, done, on-none, on-found, found-least}
-use Rattle.diagram.specs.Lent.{Lent, lent, firstEdge, edges}
+use Rattle.diagram.specs.Lent.{Lent, lent, layer, firstEdge, edges}
 use Rattle.diagram.specs.Sound.{Shaped}
 use Rattle.diagram.specs.Rules.{badTarget}
-use Rattle.diagram.proofs.ShapedLaws.{layers-rise, reshaped, same-edges, edge-sums, edges-most}
+use Rattle.diagram.proofs.ShapedLaws.{reshaped, edge-sums, edges-most}
 use Rattle.diagram.proofs.RangeLaws.{part-length}
-use Rattle.layer_targets.proofs.LayerLaws.{moves-on, same-range, in-stretch}
+use Rattle.layer_ends.specs.Layers.{LayerEnd}
+use Rattle.layer_ends.proofs.LayerLaws.{ends-layer, moves-on, next-edges}
+use Rattle.layer_targets.proofs.LayerLaws.{same-range, in-stretch}
 use Rattle.layer_targets.proofs.first_bad_target.Statement.{statement}
 use Rattle.layer_targets.proofs.first_bad_target.Tie as tie
 
@@ -36,20 +38,22 @@ shape t = begin t .pre .0
 abbrev test : tie.After-layer-edges Inv-loop μ-loop → tie.In-loop Inv-loop μ-loop
 test c = c .before .before .before
 
+-- where the layer ends
+end : (c : tie.After-layer-end Inv-loop μ-loop) → let t = c .before .before in let l = t .before .loop in LayerEnd (d t .layers) (l .v) (layer (d t) (l .v)) (c .layer-end .result)
+end c = let t = c .before .before in ends-layer (d t) (shape t) _ _ _ (omega (arith, t .loop-test .taken)) (c .layer-end .ensures)
+
 -- e is the first edge of the next layer, and one of the targets' list
 is-e : (c : tie.After-layer-edges Inv-loop μ-loop) → test c .before .loop .a + c .layer-edges .result ≡ firstEdge (d (test c)) (c .before .layer-end .result)
 is-e c =
-    let s = begin (test c) .args in
-    let l = test c .before .loop in
-    ap (λ (n : ℕ). n + c .layer-edges .result) (l .inv .1 ∙ same-edges (s .domains .now) (s .layers .now) (s .targets .now) [] (l .v))
-    ∙ c .layer-edges .ensures
-    ∙ same-edges (s .domains .now) (s .layers .now) [] (s .targets .now) (c .before .layer-end .result)
+    let t = test c in
+    let l = t .before .loop in
+    next-edges (d t) (shape t) (l .v) (c .before .layer-end .result) (t .loop-test .taken) (end (c .before)) (l .a) (c .layer-edges .result) (l .inv .1) (c .layer-edges .ensures)
 
 room : (c : tie.After-layer-edges Inv-loop μ-loop) → test c .before .loop .a + c .layer-edges .result ≤ length (begin (test c) .args .targets .now)
-room c = omega (arith, is-e c, edge-sums (d (test c)) .rise (c .before .layer-end .result) (length (begin (test c) .args .layers .now)) (c .before .layer-end .ensures .none-above .to-last), begin (test c) .pre .1)
+room c = omega (arith, is-e c, edge-sums (d (test c)) .rise (c .before .layer-end .result) (length (begin (test c) .args .layers .now)) (end (c .before) .none-above .to-last), begin (test c) .pre .1)
 
 small : (c : tie.After-layer-edges Inv-loop μ-loop) → test c .before .loop .a + c .layer-edges .result ≤ 131072
-small c = omega (arith, is-e c, edges-most (d (test c)) (shape (test c)) (c .before .layer-end .result) (c .before .layer-end .ensures .none-above .to-last))
+small c = omega (arith, is-e c, edges-most (d (test c)) (shape (test c)) (c .before .layer-end .result) (end (c .before) .none-above .to-last))
 
 -- what the layer's search finds
 found : (c : tie.After-first-stray Inv-loop μ-loop) → let e = c .before .before .before in let l = test e .before .loop in
@@ -58,7 +62,7 @@ found c =
     let e = c .before .before .before in
     let t = test e in
     let s = begin t .args in
-    in-stretch (d t) (shape t) (t .before .loop .v) (e .before .layer-end .result) (t .loop-test .taken) (e .before .layer-end .ensures)
+    in-stretch (d t) (shape t) (t .before .loop .v) (e .before .layer-end .result) (t .loop-test .taken) (end (e .before))
     (c .before .before .range-of .result) (same-range (s .domains .now) (s .layers .now) [] (s .targets .now) _ _ (c .before .before .range-of .ensures))
     (t .before .loop .a) _ (t .before .loop .inv .1) (is-e e) (room e) (c .first-stray .ensures)
 
@@ -71,10 +75,11 @@ first-bad-target-spec =
     (λ c. (omega arith, sym (edge-sums _ .none), start _))
     (λ c. search needs)
     (λ c. search needs)
-    (λ c κs. let t = c .before in (omega arith, layers-rise (d t) (shape t)))
-    (λ c κs. let t = c .before .before in (reshaped _ _ _ _ (shape t), (t .loop-test .taken, c .layer-end .ensures)))
+    (λ c κs. search needs)
+    (λ c. omega (arith, end c .none-above .from-on))
+    (λ c κs. search needs)
     (λ c. omega (arith, small c))
-    (λ c κs. (reshaped _ _ _ _ (shape (test c)), (test c .loop-test .taken, c .before .layer-end .ensures)))
+    (λ c κs. (reshaped _ _ _ _ (shape (test c)), (test c .loop-test .taken, end (c .before))))
     (λ c. omega (arith, small (c .before)))
     (λ c. omega (arith, small (c .before)))
     (λ c. omega (arith, room (c .before)))
@@ -94,13 +99,13 @@ first-bad-target-spec =
     (λ c.
     let e = c .before .before .before .before .before in
     let t = test e in
-    omega (arith, moves-on (d t) (shape t) (t .before .loop .v) (e .before .layer-end .result) (t .loop-test .taken) (e .before .layer-end .ensures)))
+    omega (arith, moves-on (d t) (shape t) (t .before .loop .v) (e .before .layer-end .result) (t .loop-test .taken) (end (e .before))))
     (λ c.
     let f = c .before .before in
     let e = f .before .before .before in
     let l = test e .before .loop in
     let q : l .a + (l .a + e .layer-edges .result - l .a) ≡ l .a + e .layer-edges .result = omega arith in
-    (e .before .layer-end .ensures .none-above .to-last, is-e e, rw q at (on-none _ (l .a) (l .inv .2) _ (sym (found f) ∙ c .enum-told .given .1))))
+    (end (e .before) .none-above .to-last, is-e e, rw q at (on-none _ (l .a) (l .inv .2) _ (sym (found f) ∙ c .enum-told .given .1))))
     (λ c.
     let l = c .before .loop in
     let s = c .before .before .before .before .before in
