@@ -33,7 +33,7 @@ fn emit_options(out: &mut [i32], at: usize, domains: &[u32]) -> usize
     let mut i = 0;
     while i < domains.len() {
         let k = domains[i];
-        p += clause_writer::emit_option(&mut out[p..], before, k);
+        p += option_writer::emit_option(&mut out[p..], before, k);
         before += k;
         i += 1;
     }
@@ -83,7 +83,7 @@ fn emit_nodes(
         before = values_before(domains, i, before, option);
         i = option;
         let next = edge + domains[option] as usize;
-        p += clause_writer::emit_node(
+        p += node_writer::emit_node(
             &mut out[p..],
             counts,
             v as u32,

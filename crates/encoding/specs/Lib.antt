@@ -1,2 +1,3 @@
 -- What this crate defines. Assumes nothing.
 pub mod Promise
+pub mod Emit

@@ -1,8 +1,10 @@
 -- `clause_writer::emit_units` meets its contract: nothing, or three clauses of one literal. Assumes nothing.
 use native.Mathlib.Omega.{arith}
+use lib.ListN.{length-set}
 use borrow.Author.Needs.{needs}
-use Rattle.lists.proofs.BufferLaws.{then, wrote-as}
-use Rattle.clause_writer.proofs.ClauseLaws.{units-words, units-length, too-many, too-short, emits}
+use Rattle.lists.proofs.BufferLaws.{wrote-as}
+use Rattle.lists.proofs.SignedLaws.{fits-less}
+use Rattle.encoding.proofs.ClauseLaws.{stored, plain-word, negated-word, units-words, units-length, too-many, too-short, emits}
 use Rattle.clause_writer.proofs.emit_units.Statement.{statement}
 use Rattle.clause_writer.proofs.emit_units.Tie as tie
 
@@ -12,12 +14,23 @@ emit-units-spec =
     (tie.spec
     (λ c. too-many _ _ _ (omega arith))
     (λ c. too-short _ _ _ (omega (arith, units-length (c .before .before .before .args .counts .values))))
-    (λ c κs. search needs) (λ c κs. search needs) (λ c κs. search needs) (λ c κs. search needs) (λ c κs. search needs)
-    (λ c κs. search needs) (λ c. search needs)
+    (λ c κs. search needs)
+    (λ c. search needs)
+    (λ c. search needs)
+    (λ c. simp length-set (omega arith))
+    (λ c κs. search needs)
+    (λ c. search needs)
+    (λ c. fits-less (c .reference-variable2 .result) (omega (arith, c .reference-variable2 .ensures)))
+    (λ c. simp length-set (omega arith))
+    (λ c. simp length-set (omega arith))
+    (λ c κs. search needs)
+    (λ c. search needs)
+    (λ c. simp length-set (omega arith))
+    (λ c. simp length-set (omega arith))
+    (λ c. simp length-set)
     (λ c.
-    let t = c .before .before in
-    let f = t .before .before .before .before in
-    let r = f .before .before .before .before in
-    let e = r .before .before in
-    emits _ _ _ (omega (arith, e .before)) (omega (arith, e, units-length (e .before .before .before .args .counts .values)))
-    (wrote-as (then (f .before .before .before .unit .ensures) (then (t .before .before .before .unit-not .ensures) (c .before .unit2 .ensures))) (units-words _ (r .reference-variable .ensures) (f .reference-variable2 .ensures) (t .reference-variable3 .ensures)))))
+    let f = c .before in
+    let t = f .before in
+    let e = t .before in
+    let D = e .before .before .before .args .counts .values in
+    emits _ _ _ (omega (arith, e .before)) (omega (arith, e, units-length D)) (wrote-as (stored _ _) (units-words D (plain-word _ (t .reference-variable .ensures) (omega arith)) (negated-word _ (f .reference-variable2 .ensures) (omega arith)) (plain-word _ (c .reference-variable3 .ensures) (omega arith))))))

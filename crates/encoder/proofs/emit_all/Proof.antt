@@ -17,8 +17,8 @@ use Rattle.diagram.specs.Lent.{Lent, lent, options, nodes}
 use Rattle.diagram.specs.Numbers.{values}
 use Rattle.diagram.specs.declared.Diagram.{Diagram}
 use Rattle.clauses.specs.Clauses.{edition1, optionClauses, units, nodeClauses, clauses}
-use Rattle.clause_writer.proofs.ClauseLaws.{emitted}
-use Rattle.encoder.proofs.EmitLaws.{list-words}
+use Rattle.encoding.proofs.ClauseLaws.{emitted}
+use Rattle.encoding.proofs.EmitLaws.{list-words}
 use Rattle.encoder.proofs.emit_all.Statement.{statement}
 use Rattle.encoder.proofs.emit_all.Tie as tie
 

@@ -2,7 +2,7 @@
 -- node v, and edge is the first edge of node v. Assumes nothing.
 use mathlib.Core.List.{List, []}
 use mathlib.Core.Path.{_∙_, _≡_, sym, ap}
-use Prim.Native.Nat.{_≤_, _<_, _+_, _-_}
+use Prim.Native.Nat.{ℕ, _≤_, _<_, _+_, _-_}
 use native.Mathlib.Nat.{le-refl}
 use native.Mathlib.Omega.{arith}
 use lib.IntN.{ℤ}
@@ -20,9 +20,9 @@ use Rattle.diagram.specs.Numbers.{firstValue, values}
 use Rattle.diagram.specs.Sound.{Within, Sound}
 use Rattle.diagram.specs.declared.Diagram.{Diagram}
 use Rattle.clauses.specs.Clauses.{nodeClauses}
-use Rattle.clause_writer.specs.Emit.{lentNode, lentNumbers}
-use Rattle.clause_writer.proofs.ClauseLaws.{each-room, each-wrote, emitted}
-use Rattle.encoder.proofs.EmitLaws.{part-few, part-node}
+use Rattle.encoding.specs.Emit.{lentNode, lentNumbers}
+use Rattle.encoding.proofs.ClauseLaws.{each-room, each-wrote, emitted}
+use Rattle.encoding.proofs.EmitLaws.{part-few, part-node}
 use Rattle.encoder.proofs.emit_nodes.Statement.{statement}
 use Rattle.encoder.proofs.emit_nodes.Tie as tie
 
@@ -59,12 +59,15 @@ abbrev test : tie.After-values-before Inv-loop μ-loop → tie.In-loop Inv-loop 
 test c = c .before .before
 
 module _ (c : tie.After-values-before Inv-loop μ-loop) where
+  abbrev lentTargets : List ℕ
+  lentTargets = let t = test c in let l = t .before .loop in take (l .edge + width (d t) (l .v) - l .edge) (drop (l .edge) (start t .args .targets .now))
+
   abbrev lentWords : List ℤ
   lentWords =
       let t = test c in
       let a = start t .args in
       let l = t .before .loop in
-      words (lentNode (a .counts .values) (a .counts .nodes) (c .values-before .result) (l .edge) (take (l .edge + width (d t) (l .v) - l .edge) (drop (l .edge) (a .targets .now))) (l .v))
+      words (lentNode (a .counts .values) (a .counts .nodes) (c .values-before .result) (l .edge) lentTargets (l .v))
 
   eD : start (test c) .args .counts .values ≡ values (d (test c))
   eD = ap (λ (k : Diagram). k .values) (start (test c) .pre .1 .1)
@@ -78,7 +81,7 @@ module _ (c : tie.After-values-before Inv-loop μ-loop) where
   node : lentWords ≡ words (nodeClauses (d (test c)) (test c .before .loop .v))
   node = let t = test c in ap words (part-node (d t) (sound t) eD en (t .before .loop .v) (t .loop-test .taken) eb (t .before .loop .inv .3))
 
-  few-numbers : let t = test c in let a = start t .args in let l = t .before .loop in lentNumbers (a .counts .values) (a .counts .nodes) (c .values-before .result) (l .edge) (length (take (l .edge + width (d t) (l .v) - l .edge) (drop (l .edge) (a .targets .now)))) (l .v) ≤ 1000000
+  few-numbers : let t = test c in let a = start t .args in let l = t .before .loop in lentNumbers (a .counts .values) (a .counts .nodes) (c .values-before .result) (l .edge) lentTargets (l .v) ≤ 1000000
   few-numbers = let t = test c in part-few (d t) (sound t) eD en (t .before .loop .v) (t .loop-test .taken) eb (t .before .loop .inv .3)
 
   fits : test c .before .loop .p + length lentWords ≤ length (test c .before .loop .out)
@@ -92,7 +95,7 @@ front : (c : tie.After-emit-node Inv-loop μ-loop) → let b = c .before .before
 front c =
     let b = c .before .before .before .before in
     let l = test b .before .loop in
-    front-in-part (l .out) (l .p) (fits b) (emitted _ _ _ (few-numbers b) (part-room (l .out) (l .p) _ (fits b)) (c .emit-node .ensures))
+    front-in-part (l .out) (l .p) {ws = lentWords b} (fits b) (emitted _ (lentWords b) _ (few-numbers b) (part-room (l .out) (l .p) (length (lentWords b)) (fits b)) (c .emit-node .ensures))
 
 pub emit-nodes-spec : {M : Type 1} → statement M
 emit-nodes-spec =

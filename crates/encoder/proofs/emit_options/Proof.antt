@@ -15,7 +15,7 @@ use Rattle.diagram.proofs.NumberLaws.{value-sums}
 use Rattle.diagram.specs.Lent.{Lent, lent, domain}
 use Rattle.diagram.specs.Numbers.{firstValue}
 use Rattle.clauses.specs.Clauses.{pairwise, edition1, optionClauses}
-use Rattle.clause_writer.proofs.ClauseLaws.{each-room, each-wrote, emitted}
+use Rattle.encoding.proofs.ClauseLaws.{each-room, each-wrote, emitted}
 use Rattle.encoder.proofs.emit_options.Statement.{statement}
 use Rattle.encoder.proofs.emit_options.Tie as tie
 

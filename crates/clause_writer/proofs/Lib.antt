@@ -1,2 +1,0 @@
--- The laws of this crate that others cite. Assumes nothing.
-pub mod ClauseLaws

@@ -1,2 +1,0 @@
--- What this crate defines. Assumes nothing.
-pub mod Emit
