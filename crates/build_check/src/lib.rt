@@ -1,4 +1,6 @@
-// What a build must be before it is judged: numbers 8 and 9. Assumes nothing.
+// What a build must be before it is judged, numbers 8 and 9; and the answer of one that is not refused. Assumes nothing.
+use judge::JudgeAnswer;
+use judge::Judged;
 use lists::Found;
 use refusal::Refusal;
 use refusal::Verdict;
@@ -9,6 +11,7 @@ ghost use Rattle.lists.specs.First.{first};
 ghost use Rattle.refusal.specs.Rules.{chain};
 ghost use Rattle.diagram.specs.Lent.{lent};
 ghost use Rattle.judge.specs.Build.{badValue, buildRules};
+ghost use Rattle.judge.specs.Promise.{answerOf};
 
 // The first option whose value is none of its domain.
 fn first_bad_value(domains: &[u32], build: &[u32]) -> Found
@@ -33,4 +36,19 @@ pub fn check_build(domains: &[u32], build: &[u32]) -> Verdict
         return refusal::verdict_of(Refusal::BUILD_LENGTH, Found::At(0));
     }
     refusal::verdict_of(Refusal::BUILD_VALUE, first_bad_value(domains, build))
+}
+
+// What the walk's end says.
+pub fn answer_of(allowed: bool) -> JudgeAnswer
+    ensures { λ r. ⌜ r ≡ answerOf allowed ⌝ }
+{
+    if allowed {
+        JudgeAnswer {
+            outcome: Judged::Allowed,
+        }
+    } else {
+        JudgeAnswer {
+            outcome: Judged::NotAllowed,
+        }
+    }
 }

@@ -61,15 +61,7 @@ fn judge_sound(domains: &[u32], layers: &[u32], targets: &[u32], build: &[u32]) 
             outcome: Judged::Refused(r),
         },
         Verdict::Passed => {
-            if walks_to_true(domains, layers, targets, build) {
-                JudgeAnswer {
-                    outcome: Judged::Allowed,
-                }
-            } else {
-                JudgeAnswer {
-                    outcome: Judged::NotAllowed,
-                }
-            }
+            build_check::answer_of(walks_to_true(domains, layers, targets, build))
         }
     }
 }

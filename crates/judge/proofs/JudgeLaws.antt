@@ -26,7 +26,7 @@ use Rattle.diagram.specs.Rules.{checkRules}
 use Rattle.diagram.proofs.AllowsLaws.{sound-ranked, allows-exactly}
 use Rattle.diagram.proofs.SoundLaws.{check-faithful, passed-sound, sound-passed}
 use Rattle.judge.specs.Build.{ValueFits, buildTable, judgeTable, badValue, buildRules, judgeRules, Fits}
-use Rattle.judge.specs.Promise.{judgeSaid, allowsTest, JudgedBy, JudgePromise, judge-said-once}
+use Rattle.judge.specs.Promise.{judgeSaid, allowsTest, answerOf, JudgedBy, JudgePromise, judge-said-once}
 use Rattle.judge.specs.declared.Judged.{Judged}
 use Rattle.judge.specs.declared.Judged.the-variants.{Allowed, NotAllowed, Refused}
 use Rattle.judge.specs.declared.JudgeAnswer.{JudgeAnswer}
@@ -75,6 +75,17 @@ module _ (d : Lent) (build : List ℕ) where
   pub judge-goes-on : (answer : JudgeAnswer) → chain (checkRules d) ≡ Passed → JudgedBy (buildRules d build) d build answer → JudgePromise d build answer
   unfolding judgeRules
   judge-goes-on answer e j = record { says = j .says ∙ ap (λ (v : Verdict). saying v (cond (allowsTest d build) 1 0 ∷ [])) (passes (checkRules d) (buildRules d build) refl e refl) }
+
+  answer-says : (b : Bool) → judgeSaid (cond b Allowed NotAllowed) ≡ result (cond b 1 0 ∷ [])
+  answer-says true = refl
+  answer-says false = refl
+
+  -- of a sound diagram: the build is refused, or it has passed and its walk decides
+  pub build-refused : (r : Refusal) → chain (buildRules d build) ≡ Refusing r → JudgedBy (buildRules d build) d build (record { outcome = Refused r })
+  build-refused r e = record { says = rw e }
+
+  pub build-walked : (answer : JudgeAnswer) (b : Bool) → chain (buildRules d build) ≡ Passed → b ≡ allowsTest d build → answer ≡ answerOf b → JudgedBy (buildRules d build) d build answer
+  build-walked answer b e t q = record { says = ap (λ (a : JudgeAnswer). judgeSaid (a .outcome)) q ∙ answer-says b ∙ rw (e, ← t) }
 
   -- ---- what an answer of `judge` tells
 

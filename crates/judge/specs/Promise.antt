@@ -23,6 +23,10 @@ judgeSaid (Refused r) = refused r
 abbrev pub allowsTest : Lent → List ℕ → Bool
 allowsTest d build = eqb (end d (chosen build) 2) 1
 
+-- the answer of which nothing is refused
+abbrev pub answerOf : Bool → JudgeAnswer
+answerOf allowed = record { outcome = cond allowed Allowed NotAllowed }
+
 -- the answer is the first refusal of the rules that is due, or whether the diagram allows the build
 pub record JudgedBy (rules : List Rule) (d : Lent) (build : List ℕ) (answer : JudgeAnswer) : Type 0 where
   pub says : judgeSaid (answer .outcome) ≡ saying (chain rules) (cond (allowsTest d build) 1 0 ∷ [])

@@ -4,7 +4,7 @@ use borrow.Author.Needs.{needs}
 use Rattle.refusal.specs.Rules.{chain}
 use Rattle.diagram.specs.Lent.{lent}
 use Rattle.judge.specs.Build.{buildRules}
-use Rattle.judge.proofs.JudgeLaws.{same-build-rules, passed-fits}
+use Rattle.judge.proofs.JudgeLaws.{same-build-rules, passed-fits, build-refused, build-walked}
 use Rattle.build_judge.proofs.judge_sound.Statement.{statement}
 use Rattle.build_judge.proofs.judge_sound.Tie as tie
 
@@ -19,6 +19,9 @@ judge-sound-spec =
     (λ c. search needs)
     (λ c. search needs)
     (λ c κs. let b = c .before .before in (b .before .before .before .before .before .pre, passed-fits _ _ (sym (build-said b) ∙ c .enum-told .given .1)))
-    (λ c. record { says = rw (sym (build-said (c .before .before .before)) ∙ c .before .r .given .1) })
-    (λ c. let t = c .before .before in record { says = rw (sym (build-said (t .before .before)) ∙ t .enum-told .given .1, sym (c .before .walks-to-true .ensures) ∙ c .if1 .taken) })
-    (λ c. let t = c .before .before in record { says = rw (sym (build-said (t .before .before)) ∙ t .enum-told .given .1, sym (c .before .walks-to-true .ensures) ∙ c .if1 .left) }))
+    (λ c κs. search needs)
+    (λ c. build-refused _ _ _ (sym (build-said (c .before .before .before)) ∙ c .before .r .given .1))
+    (λ c.
+    let w = c .before in
+    let t = w .before in
+    build-walked _ _ _ _ (sym (build-said (t .before .before)) ∙ t .enum-told .given .1) (w .walks-to-true .ensures) (c .answer-of .ensures)))

@@ -45,7 +45,9 @@ write-build-spec =
     returns-2
     (λ c. search needs)
     (λ c. (omega arith, begin _))
-    (λ c. search needs) (λ c. search needs) (λ c. search needs)
+    (λ c. search needs)
+    (λ c. omega (arith, c .before .loop-test .taken))
+    (λ c. search needs)
     (λ c. let l = c .before .before in omega (arith, kept (l .loop .inv .1), l .before .before .before .if1 .left))
     (λ c. search needs)
     (λ c. search needs)
