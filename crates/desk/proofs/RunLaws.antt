@@ -35,7 +35,7 @@ use Rattle.dimacs.specs.declared.WriteAnswer.{WriteAnswer}
 use Rattle.dimacs.proofs.WriteLaws.{write-well}
 use Rattle.diagram_file.specs.File.{fileDiagram}
 use Rattle.diagram_file.specs.Rules.{fileRules}
-use Rattle.diagram_file.specs.Promise.{sizes, sizesSaid, sizesOf, fileSaid, roomOf, overLent, FilePromise, file-said-once}
+use Rattle.diagram_file.specs.Promise.{sizesSaid, sizesOf, fileSaid, roomOf, overLent, FilePromise, file-said-once}
 use Rattle.diagram_file.specs.declared.Sizes.{Sizes}
 use Rattle.diagram_file.specs.declared.FileRead.the-variants as file
 use Rattle.diagram_file.specs.declared.FileAnswer.{FileAnswer}

@@ -7,7 +7,7 @@ use native.Mathlib.Omega.{arith}
 use lib.Dec.{leb, ltb}
 use lib.ListN.{length}
 use borrow.Author.Tests.{not-true, not-false, leb-true, leb-false, ltb-true, ltb-false}
-use Rattle.lists.proofs.FirstLaws.{Tests, tests-at, tests-each, tests-from}
+use Rattle.lists.proofs.FirstLaws.{tests-at, tests-each, tests-from}
 use Rattle.refusal.proofs.TableLaws.{Faithful, faithful-append}
 use Rattle.diagram_file.specs.Lines.{oneLine, lineStart, line, LineGives, formed, valueOf}
 use Rattle.diagram_file.specs.File.{optionsKey, domainKey, nodesKey, layerKey, edgesKey, toKey, nodesLine, edgesLine, endLine}

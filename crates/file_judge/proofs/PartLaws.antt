@@ -13,7 +13,7 @@ use Rattle.lists.proofs.FirstLaws.{start, pass, stop, done}
 use Rattle.refusal.specs.Rules.{Rule, rule, refusal, chain}
 use Rattle.refusal.specs.declared.Verdict.{Verdict}
 use Rattle.refusal.specs.declared.Verdict.the-variants as verdict
-use Rattle.diagram_file.specs.Lines.{oneLine, lineStart, formedAt, lineAt, formed, valueOf}
+use Rattle.diagram_file.specs.Lines.{oneLine, lineStart, lineAt, formed, valueOf}
 use Rattle.diagram_file.specs.Rules.{misformed, linesRule, partRules, endRules}
 use Rattle.diagram_file.specs.declared.Line.{Line}
 use Rattle.diagram_file.proofs.LineLaws as line

@@ -1,16 +1,16 @@
 -- How `layer_end` and `layer_edges` come to their answers. Assumes nothing.
-use mathlib.Core.Path.{_≡_, refl, sym, ap, _∙_}
-use mathlib.Core.Bool.{Bool, true, false, not, _&&_}
+use mathlib.Core.Path.{_≡_, sym, ap, _∙_}
+use mathlib.Core.Bool.{false, not}
 use mathlib.Core.List.{List}
 use Prim.Native.Nat.{ℕ, _+_, _-_, _*_, _≤_, _<_}
 use native.Mathlib.Omega.{arith}
 use lib.ListN.{length, getD, List·getD-eq-default}
-use lib.Dec.{ltb, leb}
+use lib.Dec.{ltb}
 use borrow.Author.Tests.{lt-ltb, le-ltb, le-leb, lt-leb}
 use Rattle.lists.specs.First.{first}
 use Rattle.lists.specs.declared.Found.the-variants.{Nothing}
 use Rattle.lists.proofs.FirstLaws.{start, pass, stop, done}
-use Rattle.layer_ends.specs.Layers.{placeOr, lowEight, pastEights, layerEnd, layerEdges}
+use Rattle.layer_ends.specs.Layers.{lowEight, pastEights, layerEnd, layerEdges}
 
 -- ---- eight at a time
 

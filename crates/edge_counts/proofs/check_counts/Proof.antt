@@ -1,17 +1,15 @@
 -- `edge_counts::check_counts` meets its contract: the shape's rules, and then the count's. Assumes nothing.
 use mathlib.Core.Path.{_≡_, sym, _∙_, ap}
-use mathlib.Core.Bool.{not}
 use mathlib.Core.List.{[]}
 use lib.ListN.{length}
 use borrow.Author.Needs.{needs}
-use borrow.Author.Tests.{ne-eqb}
 use Rattle.refusal.specs.Rules.{chain}
-use Rattle.refusal.proofs.RulesLaws.{refuses, passes, tested}
+use Rattle.refusal.proofs.RulesLaws.{refuses, passes}
 use Rattle.diagram.specs.Lent.{Lent, lent, edges}
 use Rattle.diagram.specs.Rules.{shapeRules}
 use Rattle.diagram.proofs.ShapedLaws.{same-edges}
 use Rattle.edge_counts.specs.Counts.{countRule, countRules}
-use Rattle.edge_counts.proofs.CountLaws.{same-shape-rules, shape-passed, count-passes}
+use Rattle.edge_counts.proofs.CountLaws.{same-shape-rules, shape-passed, count-refuses, count-passes}
 use Rattle.edge_counts.proofs.check_counts.Statement.{statement}
 use Rattle.edge_counts.proofs.check_counts.Tie as tie
 
@@ -42,8 +40,8 @@ check-counts-spec =
     (λ c.
     let e = c .before .before in
     let j = shape e in
-    passes (shapeRules (d j)) (countRule (d j)) (shape-said j) (e .before .enum-told2 .given .1) (tested 5 [] (ap not (ne-eqb _ _ (λ q. c .before .if1 .taken (q ∙ sym (count e))))) (c .verdict-of .ensures)))
+    passes (shapeRules (d j)) (countRule (d j)) (shape-said j) (e .before .enum-told2 .given .1) (count-refuses (d j) (e .edge-count .result) (count e) (c .before .if1 .taken) (c .verdict-of .ensures)))
     (λ c.
     let e = c .before in
     let j = shape e in
-    passes (shapeRules (d j)) (countRule (d j)) (shape-said j) (e .before .enum-told2 .given .1) (count-passes (d j) (c .if1 .left ∙ count e))))
+    passes (shapeRules (d j)) (countRule (d j)) (shape-said j) (e .before .enum-told2 .given .1) (count-passes (d j) (e .edge-count .result) (count e) (c .if1 .left))))

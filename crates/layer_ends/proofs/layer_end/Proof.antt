@@ -1,6 +1,5 @@
 -- `layer_ends::layer_end` meets its contract: before each turn no layer passed one at a time is above. Assumes nothing.
 use Prim.Native.Nat.{_-_}
-use native.Mathlib.Omega.{arith}
 use lib.ListN.{length}
 use borrow.Author.Needs.{needs}
 use Rattle.layer_ends.proofs.EndLaws.{Stepping, step-none, step-more, step-above, step-end, past-end}

@@ -1,5 +1,5 @@
 -- `layer_targets::check_all` meets its contract: the rules before the targets', and then theirs. Assumes nothing.
-use mathlib.Core.Path.{_≡_, sym, _∙_, ap}
+use mathlib.Core.Path.{sym, _∙_, ap}
 use mathlib.Core.List.{[], _∷_}
 use borrow.Author.Needs.{needs}
 use Rattle.lists.specs.First.{first}
