@@ -8,3 +8,4 @@ pub mod WriteLaws
 pub mod WriterLaws
 pub mod ReadLaws
 pub mod RoundTrip
+pub mod VerdictLaws

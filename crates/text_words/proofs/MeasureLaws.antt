@@ -1,17 +1,17 @@
 -- How `measure_words` comes to its answer, and what the answer tells: the words are good and measured, or the first refusal.
 -- Assumes nothing.
 use mathlib.Core.Path.{_≡_, refl, sym, _∙_, ap}
-use mathlib.Core.Bool.{true, false, true≢false, false≢true}
+use mathlib.Core.Bool.{true, false}
 use mathlib.Core.List.{List}
 use Prim.Native.Nat.{ℕ}
 use lib.IntN.{ℤ}
 use lib.ListN.{length}
 use Rattle.refusal.specs.Rules.{refusal, chain}
-use Rattle.refusal.specs.declared.Verdict.{Verdict}
 use Rattle.refusal.specs.declared.Verdict.the-variants.{Passed, Refused}
 use Rattle.cnf.specs.Words.{zeros}
 use Rattle.cnf.specs.Lent.{wordRules}
 use Rattle.dimacs.specs.Text.{textOf}
+use Rattle.dimacs.proofs.VerdictLaws.{told-refused, told-passed}
 use Rattle.text_words.specs.Measured.{measureBy, measureOf, WordsMeasured}
 use Rattle.text_words.specs.declared.Measure.{Measure}
 
@@ -24,15 +24,10 @@ module _ (v : ℕ) (ws : List ℤ) where
 
   module _ (m : Measure) (e : m ≡ measureOf v ws) where
     pub measure-bad : m .good ≡ false → chain (wordRules v ws) ≡ Refused (m .refusal)
-    measure-bad b = go (chain (wordRules v ws)) refl
-      where
-        go : (w : Verdict) → chain (wordRules v ws) ≡ w → chain (wordRules v ws) ≡ Refused (m .refusal)
-        go (Refused r) q = q ∙ ap (λ (m : Measure). Refused (m .refusal)) (sym (e ∙ ap (measureBy v ws) q))
-        go Passed q = absurd (false≢true (sym b ∙ ap (λ (m : Measure). m .good) (e ∙ ap (measureBy v ws) q)))
+    measure-bad = told-refused (measureBy v ws) (λ m. m .good) (λ m. m .refusal) (λ r. refl) (λ r. refl) refl (chain (wordRules v ws)) m e
 
     pub measure-good : m .good ≡ true → WordsMeasured v ws m
-    measure-good b = go (chain (wordRules v ws)) refl
-      where
-        go : (w : Verdict) → chain (wordRules v ws) ≡ w → WordsMeasured v ws m
-        go (Refused r) q = absurd (true≢false (sym b ∙ ap (λ (m : Measure). m .good) (e ∙ ap (measureBy v ws) q)))
-        go Passed q = let s = e ∙ ap (measureBy v ws) q in (q, ap (λ (m : Measure). m .clauses) s, ap (λ (m : Measure). m .size) s)
+    measure-good b =
+        let q = told-passed (measureBy v ws) (λ m. m .good) (λ m. m .refusal) (λ r. refl) (λ r. refl) refl (chain (wordRules v ws)) m e b in
+        let s = e ∙ ap (measureBy v ws) q in
+        (q, ap (λ (m : Measure). m .clauses) s, ap (λ (m : Measure). m .size) s)
