@@ -5,97 +5,24 @@ use refusal::Refusal;
 use refusal::Verdict;
 ghost use mathlib.Core.Path.{_≡_};
 ghost use mathlib.Core.List.{[]};
-ghost use Prim.Native.Nat.{ℕ, _+_, _-_, _≤_, _<_};
-ghost use lib.ListN.{length};
-ghost use Rattle.lists.specs.Upto.{countTo};
-ghost use Rattle.lists.specs.First.{first};
 ghost use Rattle.refusal.specs.Rules.{chain};
 ghost use Rattle.diagram.specs.Lent.{lent};
-ghost use Rattle.diagram.specs.Rules.{breaksRule, badLayer, nodeRules, shapeRules};
+ghost use Rattle.diagram.specs.Rules.{nodeRules, shapeRules};
 
-// ---- numbers 3 and 4
-
-// A node after the root breaks the layers' rule: its layer is `layer`, that of the node before it `before`.
-fn breaks(options: u32, before: u32, layer: u32) -> bool
-    ensures { λ r. ⌜ r ≡ breaksRule options before layer ⌝ }
-{
-    if layer < 2 {
-        return true;
-    }
-    if options < layer {
-        return true;
-    }
-    layer < before
-}
-
-fn is_bad_layer(domains: &[u32], layers: &[u32], v: usize) -> bool
-    requires { ⌜ (length (now domains) ≤ 64) × (v < length (now layers)) ⌝ }
-    ensures { λ r. ⌜ r ≡ badLayer (lent (now (domains .entry)) (now (layers .entry)) []) v ⌝ }
-{
-    if v == 0 {
-        return layers[v] != 1;
-    }
-    breaks(domains.len() as u32, layers[v - 1], layers[v])
-}
-
-// How many nodes after the root break the rule: counted to the end, and never left early.
-fn count_bad_layers(domains: &[u32], layers: &[u32]) -> u32
-    requires { ⌜ (length (now domains) ≤ 64) × (1 ≤ length (now layers)) × (length (now layers) ≤ 4096) ⌝ }
-    ensures { λ r. ⌜ r ≡ countTo (length (now (layers .entry)) - 1) (λ (j : ℕ). badLayer (lent (now (domains .entry)) (now (layers .entry)) []) (1 + j)) ⌝ }
-{
-    let options = domains.len() as u32;
-    let mut n: u32 = 0;
-    let mut j = 0;
-    while j + 1 < layers.len() {
-        if breaks(options, layers[j], layers[j + 1]) {
-            n += 1;
-        }
-        j += 1;
-    }
-    n
-}
-
-fn search_bad_layer(domains: &[u32], layers: &[u32]) -> Found
-    requires { ⌜ length (now domains) ≤ 64 ⌝ }
-    ensures { λ r. ⌜ r ≡ first (badLayer (lent (now (domains .entry)) (now (layers .entry)) [])) (length (now (layers .entry))) ⌝ }
-{
-    let mut v = 0;
-    while v < layers.len() {
-        if is_bad_layer(domains, layers, v) {
-            return Found::At(v);
-        }
-        v += 1;
-    }
-    Found::Nothing
-}
-
-// The first bad layer: searched for only where the root's is bad or the count is not 0.
-fn first_bad_layer(domains: &[u32], layers: &[u32]) -> Found
-    requires { ⌜ (length (now domains) ≤ 64) × (1 ≤ length (now layers)) × (length (now layers) ≤ 4096) ⌝ }
-    ensures { λ r. ⌜ r ≡ first (badLayer (lent (now (domains .entry)) (now (layers .entry)) [])) (length (now (layers .entry))) ⌝ }
-{
-    if is_bad_layer(domains, layers, 0) {
-        return Found::At(0);
-    }
-    if count_bad_layers(domains, layers) == 0 {
-        return Found::Nothing;
-    }
-    search_bad_layer(domains, layers)
-}
-
+// Numbers 3 and 4.
 fn check_nodes(domains: &[u32], layers: &[u32]) -> Verdict
-    requires { ⌜ length (now domains) ≤ 64 ⌝ }
     ensures { λ r. ⌜ r ≡ chain (nodeRules (lent (now (domains .entry)) (now (layers .entry)) [])) ⌝ }
 {
     if option_check::is_outside(1, Diagram::MAX_NODES as usize, layers.len()) {
         return refusal::verdict_of(Refusal::NODES, Found::At(0));
     }
-    refusal::verdict_of(Refusal::LAYER, first_bad_layer(domains, layers))
+    refusal::verdict_of(
+        Refusal::LAYER,
+        layer_check::first_bad_layer(domains, layers),
+    )
 }
 
-// ---- numbers 1 to 4
-
-// The layers are looked at only where there are no more options than a diagram may have.
+// The first refusal of numbers 1 to 4 that is due.
 pub fn check_shape(domains: &[u32], layers: &[u32]) -> Verdict
     ensures { λ r. ⌜ r ≡ chain (shapeRules (lent (now (domains .entry)) (now (layers .entry)) [])) ⌝ }
 {

@@ -3,7 +3,6 @@ use mathlib.Core.Path.{sym, _∙_}
 use borrow.Author.Needs.{needs}
 use Rattle.refusal.proofs.RulesLaws.{tested, not-tested}
 use Rattle.diagram.specs.Rules.{nodeRules}
-use Rattle.diagram.proofs.ShapedLaws.{inside}
 use Rattle.shape.proofs.check_nodes.Statement.{statement}
 use Rattle.shape.proofs.check_nodes.Tie as tie
 
@@ -25,6 +24,6 @@ check-nodes-spec =
     (λ c κs. search needs)
     (λ c κs. search needs)
     returns
-    (λ c κs. let w = inside 1 4096 _ (sym (c .before .is-outside .ensures) ∙ c .if1 .left) in (c .before .before .before .before .pre, w .0, w .1))
+    (λ c κs. search needs)
     (λ c κs. search needs)
     returns-2)

@@ -1,4 +1,4 @@
--- `shape::search_bad_layer` meets its contract: none below v is bad. Assumes nothing.
+-- `layer_check::search_bad_layer` meets its contract: none below v is bad. Assumes nothing.
 use mathlib.Core.Path.{_≡_, sym, _∙_}
 use mathlib.Core.List.{[]}
 use Prim.Native.Nat.{_≤_, _-_}
@@ -10,8 +10,8 @@ use Rattle.lists.specs.declared.Found.the-variants.{Nothing}
 use Rattle.lists.proofs.FirstLaws.{start, pass, stop, done}
 use Rattle.diagram.specs.Lent.{lent}
 use Rattle.diagram.specs.Rules.{badLayer}
-use Rattle.shape.proofs.search_bad_layer.Statement.{statement}
-use Rattle.shape.proofs.search_bad_layer.Tie as tie
+use Rattle.layer_check.proofs.search_bad_layer.Statement.{statement}
+use Rattle.layer_check.proofs.search_bad_layer.Tie as tie
 
 abbrev Inv-loop : tie.InvT-loop
 Inv-loop domains layers v₀ v = (v ≤ length layers) × (first (badLayer (lent domains layers [])) v ≡ Nothing)

@@ -1,7 +1,7 @@
--- `shape::breaks` meets its contract. Assumes nothing.
+-- `layer_check::breaks` meets its contract. Assumes nothing.
 use borrow.Author.Tests.{lt-ltb, le-ltb}
-use Rattle.shape.proofs.breaks.Statement.{statement}
-use Rattle.shape.proofs.breaks.Tie as tie
+use Rattle.layer_check.proofs.breaks.Statement.{statement}
+use Rattle.layer_check.proofs.breaks.Tie as tie
 
 pub breaks-spec : {M : Type 1} → statement M
 breaks-spec =
