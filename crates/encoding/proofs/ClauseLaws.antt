@@ -1,5 +1,5 @@
--- How long the pieces are that the emitters write, and the same clauses said by other numbers; and what an emitter promises,
--- where it writes and where it does not. Assumes nothing.
+-- What an emitter promises, where it writes and where it does not; words as they are stored one by one; how long the pieces are
+-- that the emitters write, and the same clauses said by other numbers. Assumes nothing.
 use mathlib.Core.Path.{_≡_, refl, sym, _∙_, ap}
 use mathlib.Core.Bool.{Bool, true, false, _&&_}
 use mathlib.Core.List.{List, [], _∷_, _++_}
@@ -18,7 +18,7 @@ use Rattle.lists.proofs.SignedLaws.{as-word, minus-back}
 use Rattle.lists.proofs.BufferLaws.{put, then, wrote-as, over-none, to-front}
 use Rattle.cnf.specs.Clause.{Clause, plain, negated, words}
 use Rattle.cnf.proofs.WordsLaws.{words-none, words-one, words-append, words-upTo, length-more, length-upTo}
-use Rattle.diagram.specs.Numbers.{valueNumber, referenceNumber, edgeNumber}
+use Rattle.diagram.specs.Numbers.{valueNumber, referenceNumber}
 use Rattle.clauses.specs.Clauses.{oneOf, allValues, pair, units, t2to5, t1}
 use Rattle.encoding.specs.Emit.{edgeFrom, nodeFrom, few, fitting, EmitPromise}
 
@@ -76,26 +76,13 @@ plain-word v {n} e h = ap (toZ w32) e ∙ as-word n h
 pub negated-word : (v : ℕ) {n : ℕ} → v ≡ n → n < 2 ^ 31 → toZ w32 (ofZ w32 (toZ w32 0 -ℤ toZ w32 v)) ≡ negated n
 negated-word v {n} e h = ap (λ (m : ℕ). toZ w32 (ofZ w32 (toZ w32 0 -ℤ toZ w32 m))) e ∙ minus-back n h
 
--- ---- lengths
+-- ---- literals in a row
 
 pub run-length : (f : ℕ → ℕ) (k : ℕ) → length (oneOf f k) ≡ k
 run-length f k = list-singles k (λ j. plain (f j))
 
-pub edge-length : (e v m x : ℕ) → length (words (t2to5 e v m x)) ≡ 13
-unfolding words
-edge-length e v m x = refl
-
-pub t1-length : (v : ℕ) (e : ℕ → ℕ) (k : ℕ) → length (words (t1 v e k ∷ [])) ≡ k + 2
-t1-length v e k = omega (arith, length-more (t1 v e k) [], ap length words-none, run-length e k)
-
--- ---- other numbers
-
 pub run-same : (f g : ℕ → ℕ) (k : ℕ) → ((j : ℕ) → f j ≡ g j) → oneOf f k ≡ oneOf g k
 run-same f g k h = list-same (λ j. plain (f j) ∷ []) (λ j. plain (g j) ∷ []) k (λ j l. ap (λ (n : ℕ). plain n ∷ []) (h j))
-
-pub edge-words : (e v m x : ℕ) {not-e to-v to-m to-x not-m not-x to-e : ℤ} → not-e ≡ negated e → to-v ≡ plain v → to-m ≡ plain m → to-x ≡ plain x → not-m ≡ negated m → not-x ≡ negated x → to-e ≡ plain e → not-e ∷ to-v ∷ pos 0 ∷ not-e ∷ to-m ∷ pos 0 ∷ not-e ∷ to-x ∷ pos 0 ∷ not-m ∷ not-x ∷ to-e ∷ pos 0 ∷ [] ≡ words (t2to5 e v m x)
-unfolding words
-edge-words e v m x a b c d f g h = rw (a, b, c, d, f, g, h)
 
 -- ---- blocks of clauses, one after the other
 
@@ -139,6 +126,17 @@ units-words D p q r = rw (p, q, r)
 pub units-length : (D : ℕ) → length (words (units D)) ≡ 6
 unfolding words
 units-length D = refl
+
+-- ---- an edge's words
+
+edge-length : (e v m x : ℕ) → length (words (t2to5 e v m x)) ≡ 13
+unfolding words
+edge-length e v m x = refl
+
+-- as they are stored
+pub edge-words : (e v m x : ℕ) {not-e to-v to-m to-x not-m not-x to-e : ℤ} → not-e ≡ negated e → to-v ≡ plain v → to-m ≡ plain m → to-x ≡ plain x → not-m ≡ negated m → not-x ≡ negated x → to-e ≡ plain e → not-e ∷ to-v ∷ pos 0 ∷ not-e ∷ to-m ∷ pos 0 ∷ not-e ∷ to-x ∷ pos 0 ∷ not-m ∷ not-x ∷ to-e ∷ pos 0 ∷ [] ≡ words (t2to5 e v m x)
+unfolding words
+edge-words e v m x a b c d f g h = rw (a, b, c, d, f, g, h)
 
 -- ---- a node's words: T1, and then each edge's
 

@@ -52,7 +52,7 @@ pub fn emit_option(out: &mut [i32], before: u32, k: u32) -> usize
     if 1000000 < Diagram::value_variable(before, k) {
         return 0;
     }
-    if (out.len() as u64) < k as u64 + 1 + 3 * sizes::pairs_of(k) {
+    if (out.len() as u64) < k as u64 + 1 + 3 * pair_counts::pairs_of(k) {
         return 0;
     }
     let p = clause_writer::emit_literals(out, before + 1, k);

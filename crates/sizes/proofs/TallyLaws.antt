@@ -1,8 +1,5 @@
--- The numbers by the formulas are the list's own, since a sound diagram's are below the cut; and how many pairs there are at
--- most. Assumes nothing.
+-- The numbers by the formulas are the list's own, since a sound diagram's are below the cut. Assumes nothing.
 use mathlib.Core.Path.{_≡_}
-use Prim.Native.Nat.{ℕ, _-_, _*_, _≤_}
-use native.Mathlib.Nat.{mul-le-mul}
 use native.Mathlib.Omega.{arith}
 use Rattle.cnf.specs.Encoded.{tally-same, tallyOf}
 use Rattle.diagram.specs.Lent.{Lent}
@@ -11,10 +8,6 @@ use Rattle.diagram.specs.Promise.{countsOf}
 use Rattle.clauses.specs.Clauses.{edition1, clauses, lastVariable}
 use Rattle.clauses.proofs.Edition1Sizes.{last-variable, clauses-by-pairs, words-by-pairs, all-pairs-most, clauses-most, variables-most}
 use Rattle.sizes.specs.Tallied.{tallied}
-
--- twice the pairs of at most m values
-pub product-within : (m k : ℕ) → k ≤ m → k * (k - 1) ≤ m * (m - 1)
-product-within m k h = let q : k - 1 ≤ m - 1 = omega arith in mul-le-mul h q
 
 pub own-tally : (d : Lent) → Shaped d → tallied (countsOf d) (d .domains) ≡ tallyOf (clauses edition1 d) (lastVariable edition1 d)
 own-tally d s =

@@ -4,7 +4,6 @@ use cnf::Tally;
 use diagram::Diagram;
 ghost use mathlib.Core.Path.{_≡_};
 ghost use lib.ListN.{length};
-ghost use Rattle.clauses.specs.Clauses.{pairCount};
 ghost use Rattle.sizes.specs.Tallied.{cut, pairSum, tallied};
 
 // A number in 32 bits, or the largest of them where it is more.
@@ -17,16 +16,6 @@ fn cut_to_32(n: u64) -> u32
     n as u32
 }
 
-// How many pairs k values have.
-pub fn pairs_of(k: u32) -> u64
-    ensures { λ r. ⌜ r ≡ pairCount k ⌝ }
-{
-    if k == 0 {
-        return 0;
-    }
-    k as u64 * (k as u64 - 1) / 2
-}
-
 // How many pairs all options have together, cut.
 fn pair_count(domains: &[u32]) -> u32
     ensures { λ r. ⌜ r ≡ cut (pairSum (now (domains .entry)) (length (now (domains .entry)))) ⌝ }
@@ -34,7 +23,7 @@ fn pair_count(domains: &[u32]) -> u32
     let mut n: u32 = 0;
     let mut i = 0;
     while i < domains.len() {
-        n = cut_to_32(n as u64 + pairs_of(domains[i]));
+        n = cut_to_32(n as u64 + pair_counts::pairs_of(domains[i]));
         i += 1;
     }
     n

@@ -3,7 +3,7 @@ use mathlib.Core.List.{List, [], _∷_}
 use Prim.Native.Nat.{ℕ, _<_}
 use native.Mathlib.Omega.{arith}
 use lib.IntN.{ℤ, pos, _-ℤ_}
-use lib.ListN.{length, take}
+use lib.ListN.{length}
 use lib.Seq.{sets, length-sets, lt-length-sets}
 use mir.Syntax.{w32}
 use mir.Val.{ofZ, toZ}

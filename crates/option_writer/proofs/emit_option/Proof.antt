@@ -12,7 +12,7 @@ use Rattle.cnf.specs.Clause.{words}
 use Rattle.diagram.specs.Numbers.{valueNumber}
 use Rattle.clauses.specs.Clauses.{oneOf, allValues, pairs, pairCount, pairwise}
 use Rattle.clauses.proofs.Edition1.{edition1-counts}
-use Rattle.sizes.proofs.TallyLaws.{product-within}
+use Rattle.pair_counts.proofs.PairLaws.{product-within}
 use Rattle.encoding.proofs.ClauseLaws.{run-length, values-length, values-words, more-words, too-many, too-short, emits, emitted}
 use Rattle.option_writer.proofs.emit_option.Statement.{statement}
 use Rattle.option_writer.proofs.emit_option.Tie as tie

@@ -8,7 +8,7 @@ use borrow.Author.Needs.{needs}
 use Rattle.lists.proofs.UptoLaws.{sum-none, sum-more}
 use Rattle.clauses.specs.Clauses.{pairCount}
 use Rattle.sizes.specs.Tallied.{cut, pairSum}
-use Rattle.sizes.proofs.TallyLaws.{product-within}
+use Rattle.pair_counts.proofs.PairLaws.{product-within}
 use Rattle.sizes.proofs.pair_count.Statement.{statement}
 use Rattle.sizes.proofs.pair_count.Tie as tie
 

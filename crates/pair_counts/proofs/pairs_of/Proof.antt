@@ -1,12 +1,12 @@
--- `sizes::pairs_of` meets its contract. Assumes nothing.
+-- `pair_counts::pairs_of` meets its contract. Assumes nothing.
 use mathlib.Core.Path.{_≡_}
 use Prim.Native.Nat.{ℕ}
 use native.Mathlib.Omega.{arith}
 use borrow.Author.Needs.{needs}
 use Rattle.clauses.specs.Clauses.{pairCount}
-use Rattle.sizes.proofs.TallyLaws.{product-within}
-use Rattle.sizes.proofs.pairs_of.Statement.{statement}
-use Rattle.sizes.proofs.pairs_of.Tie as tie
+use Rattle.pair_counts.proofs.PairLaws.{product-within}
+use Rattle.pair_counts.proofs.pairs_of.Statement.{statement}
+use Rattle.pair_counts.proofs.pairs_of.Tie as tie
 
 no-pairs : (k : ℕ) → k ≡ 0 → 0 ≡ pairCount k
 no-pairs k e = rw e
