@@ -1,6 +1,5 @@
 -- `layer_targets::first_bad_target` meets its contract: none before a, the first edge of node v, is bad. Assumes nothing.
 use mathlib.Core.Path.{_≡_, sym, _∙_, ap}
-use mathlib.Core.List.{[]}
 use Prim.Native.Nat.{ℕ, _+_, _≤_, _-_}
 use native.Mathlib.Omega.{arith}
 use lib.ListN.{length}
@@ -11,11 +10,12 @@ use Rattle.lists.proofs.FirstLaws.{start, done, on-none, on-found, found-least}
 use Rattle.diagram.specs.Lent.{Lent, lent, layer, firstEdge, edges}
 use Rattle.diagram.specs.Sound.{Shaped}
 use Rattle.diagram.specs.Rules.{badTarget}
-use Rattle.diagram.proofs.ShapedLaws.{reshaped, edge-sums, edges-most}
+use Rattle.diagram.proofs.ShapedLaws.{edge-sums, edges-most}
 use Rattle.diagram.proofs.RangeLaws.{part-length}
 use Rattle.layer_ends.specs.Layers.{LayerEnd}
 use Rattle.layer_ends.proofs.LayerLaws.{ends-layer, moves-on, next-edges}
-use Rattle.layer_targets.proofs.LayerLaws.{same-range, in-stretch}
+use Rattle.layer_ranges.proofs.RangeLaws.{layer-range}
+use Rattle.layer_targets.proofs.LayerLaws.{in-stretch}
 use Rattle.layer_targets.proofs.first_bad_target.Statement.{statement}
 use Rattle.layer_targets.proofs.first_bad_target.Tie as tie
 
@@ -61,9 +61,8 @@ found : (c : tie.After-first-stray Inv-loop μ-loop) → let e = c .before .befo
 found c =
     let e = c .before .before .before in
     let t = test e in
-    let s = begin t .args in
     in-stretch (d t) (shape t) (t .before .loop .v) (e .before .layer-end .result) (t .loop-test .taken) (end (e .before))
-    (c .before .before .range-of .result) (same-range (s .domains .now) (s .layers .now) [] (s .targets .now) _ _ (c .before .before .range-of .ensures))
+    (c .before .before .range-of .result) (layer-range (d t) (shape t) (t .before .loop .v) (e .before .layer-end .result) (t .loop-test .taken) (end (e .before)) (c .before .before .range-of .result) (c .before .before .range-of .ensures))
     (t .before .loop .a) _ (t .before .loop .inv .1) (is-e e) (room e) (c .first-stray .ensures)
 
 pub first-bad-target-spec : {M : Type 1} → statement M
@@ -79,7 +78,7 @@ first-bad-target-spec =
     (λ c. omega (arith, end c .none-above .from-on))
     (λ c κs. search needs)
     (λ c. omega (arith, small c))
-    (λ c κs. (reshaped _ _ _ _ (shape (test c)), (test c .loop-test .taken, end (c .before))))
+    (λ c κs. search needs)
     (λ c. omega (arith, small (c .before)))
     (λ c. omega (arith, small (c .before)))
     (λ c. omega (arith, room (c .before)))

@@ -1,2 +1,2 @@
 -- What this crate defines. Assumes nothing.
-pub mod Layers
+pub mod Ranges
