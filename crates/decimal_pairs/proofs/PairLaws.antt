@@ -33,12 +33,6 @@ digits-last-four n h l =
     let c : n % 100 ≡ n % 10000 % 100 = omega arith in
     digits-last-two n (omega arith) l ∙ rw (digits-last-two (n / 100) (omega arith) (omega arith), append-assoc, a, b, c)
 
--- the last eight digits
-pub digits-last-eight : (n : ℕ) → 100000000 ≤ n → n < 10 ^ 20 → digits n ≡ (digits (n / 100000000) ++ four (n / 10000 % 10000)) ++ four (n % 10000)
-digits-last-eight n h l =
-    let e : n / 10000 / 10000 ≡ n / 100000000 = omega arith in
-    digits-last-four n (omega arith) l ∙ rw (digits-last-four (n / 10000) (omega arith) (omega arith), e)
-
 -- the bytes of two digits, as one number: the first is its low byte
 pub packed-pair : (n both : ℕ) → n < 100 → both ≡ 12336 + 256 * n - 2559 * (n / 10) → _≡_ {A = List ℕ} (both % 256 ∷ both / 256 ∷ []) (pair n)
 packed-pair n both h e =

@@ -47,17 +47,7 @@ fn put_short(n: u32, out: &mut [u8], at: usize) -> usize
     4
 }
 
-// Any number: the first one or two digits of more than eight, and then four by four.
-fn put_long(n: u32, out: &mut [u8], at: usize) -> usize
-    requires { ⌜ (100000000 ≤ n) × (at + 10 ≤ length (now out)) ⌝ }
-    ensures { λ r. ⌜ Wrote (now (out .entry)) at (digits n) (now (out .exit)) (at + r) ⌝ }
-{
-    let count = put_short(n / 100000000, out, at);
-    put_four(n / 10000 % 10000, out, at + count);
-    put_four(n % 10000, out, at + count + 4);
-    count + 8
-}
-
+// Any number: the first one to four of up to eight digits, and then four; one of more digits as others are written.
 fn put_digits(n: u32, out: &mut [u8], at: usize) -> usize
     requires { ⌜ at + 10 ≤ length (now out) ⌝ }
     ensures { λ r. ⌜ Wrote (now (out .entry)) at (digits n) (now (out .exit)) (at + r) ⌝ }
@@ -70,7 +60,7 @@ fn put_digits(n: u32, out: &mut [u8], at: usize) -> usize
         put_four(n % 10000, out, at + count);
         return count + 4;
     }
-    put_long(n, out, at)
+    decimal_writer::write(n as u64, out, at)
 }
 
 // The same as `decimal_writer::write`, for long lists of numbers.

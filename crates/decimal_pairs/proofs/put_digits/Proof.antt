@@ -3,6 +3,9 @@ use mathlib.Core.Path.{sym}
 use native.Mathlib.Omega.{arith}
 use borrow.Author.Needs.{needs}
 use Rattle.lists.proofs.BufferLaws.{then, wrote-as, wrote-next}
+use Rattle.decimal.specs.Digits.{digits}
+use Rattle.decimal.proofs.BytesLaws.{put-wrote}
+use Rattle.decimal.proofs.WriterLaws.{length-most}
 use Rattle.decimal_pairs.proofs.PairLaws.{digits-last-four}
 use Rattle.decimal_pairs.proofs.put_digits.Statement.{statement}
 use Rattle.decimal_pairs.proofs.put_digits.Tie as tie
@@ -26,4 +29,7 @@ put-digits-spec =
     wrote-next (wrote-as (then (p .put-short2 .ensures .1) (f .put-four .ensures)) (sym (digits-last-four _ (t .before .if1 .left) (omega arith)))) (omega arith))
     (λ c κs. search needs)
     (λ c. search needs)
-    (λ c. search needs))
+    (λ c.
+    let w = c .before .before in
+    let s = w .before .before .before .before .before in
+    put-wrote (digits (s .args .n)) (s .args .at) _ (omega (arith, s .pre, length-most 9 (s .args .n) (omega arith) (omega arith))) (w .write .ensures)))
