@@ -32,7 +32,7 @@ use Rattle.naming.specs.Naming.{namingRules}
 use Rattle.naming.specs.Marks.{Marks, markedTrue}
 use Rattle.model.specs.Rules.{unclear, valueOf, valuesTo, namesTrue, buildOf, valueRules, literalRules, soundRules, modelRules}
 use Rattle.model.specs.Promise.{modelSaid, ReadBy, ModelPromise}
-use Rattle.model.specs.Steps.{roomVerdict, unread, firstUnread, valuesVerdict, valuesAfter, writeVerdict, answerOf}
+use Rattle.model.specs.Steps.{roomVerdict, unread, firstUnread, valuesVerdict, valuesAfter, writeVerdict, answerOf, writeAnswer, writeAfter}
 use Rattle.model.specs.declared.ModelRead.the-variants.{Refused}
 use Rattle.model.specs.declared.ModelAnswer.{ModelAnswer}
 use Rattle.model.proofs.MarkLaws.{marked-unread, same-unclear, same-values}
@@ -113,7 +113,7 @@ module _ (d : Lent) (m : List ℤ) (last : ℕ) (small : values d ≤ 2048) {nam
         front-goes (Refusing r) q = refl
         front-goes Passed q = ap (λ (l : List ℕ). over l given) (values-built (and-passed read _ (sym judged ∙ and-passed (roomVerdict (length front) (length given)) allowed q .1) .0))
 
-        pub read-written : {list : List ℕ} {answer : ModelAnswer} → answer ≡ answerOf last-verdict (length front) → list ≡ leaving last-verdict (over front given) given → ReadBy (soundRules d m last (length given)) d m given answer list
+        pub read-written : {list : List ℕ} {answer : ModelAnswer} → answer ≡ writeAnswer allowed front given → list ≡ writeAfter allowed front given → ReadBy (soundRules d m last (length given)) d m given answer list
         read-written e f =
             record {
               says = ap (λ (a : ModelAnswer). modelSaid (a .outcome)) e ∙ answer-says last-verdict (length front) ∙ rw (all-said, whole);
