@@ -7,6 +7,10 @@ use lib.Dec.{leb, eqb}
 use lib.ListN.{length, drop}
 use lib.Seq.{sets}
 
+-- the byte that ends a line
+abbrev pub lineFeed : ℕ
+lineFeed = 10
+
 -- the text begins with the key
 unfoldable pub startsWith : List ℕ → List ℕ → Bool
 startsWith [] s = true

@@ -11,12 +11,12 @@ use lib.ListN.{length, drop, length-append, length-drop, drop-of-length-le}
 use lib.Seq.{drop-drop, drop-append-seam}
 use borrow.Author.Tests.{leb-true, le-leb, ne-eqb}
 use Rattle.decimal.specs.Digits.{isDigit, allDigits, plain, isDecimal, value}
-use Rattle.decimal.specs.Bytes.{hasAt}
+use Rattle.decimal.specs.Bytes.{lineFeed, hasAt}
 use Rattle.decimal.specs.Reading.{run, cut, fieldAt}
 use Rattle.decimal.proofs.DigitsLaws.{decimal-digits, all-first, digit-range}
 use Rattle.decimal.proofs.BytesLaws.{starts-with, with-start}
 use Rattle.decimal.proofs.FieldLaws.{field-read, read-field}
-use Rattle.diagram_file.specs.Lines.{lineFeed, mostValue, firstLine, oneLine, GivesValue, lineStart, line, LineGives, readAfter, formedAt, lineAt, formed, valueOf}
+use Rattle.diagram_file.specs.Lines.{mostValue, firstLine, oneLine, GivesValue, lineStart, line, LineGives, readAfter, formedAt, lineAt, formed, valueOf}
 use Rattle.diagram_file.specs.declared.Line.{Line}
 
 -- ---- the first line of a text

@@ -7,13 +7,10 @@ use Prim.Native.Nat.{ℕ, zero, suc, _+_, _≤_}
 use lib.Dec.{leb, eqb}
 use lib.ListN.{length, drop}
 use Rattle.decimal.specs.Digits.{isDecimal, value}
-use Rattle.decimal.specs.Bytes.{hasAt}
+use Rattle.decimal.specs.Bytes.{lineFeed, hasAt}
 use Rattle.decimal.specs.Reading.{readingAt, fieldAt}
 use Rattle.decimal.specs.declared.Reading.{Reading}
 use Rattle.diagram_file.specs.declared.Line.{Line}
-
-abbrev pub lineFeed : ℕ
-lineFeed = 10
 
 -- the largest value, 2 ^ 32 - 1
 abbrev pub mostValue : ℕ

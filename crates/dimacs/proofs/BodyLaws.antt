@@ -16,13 +16,14 @@ use Rattle.lists.proofs.UptoLaws.{list-none, list-front}
 use Rattle.lists.proofs.EveryLaws.{every-none, every-more, every-both, each-every, entry-in}
 use Rattle.refusal.specs.Rules.{chain}
 use Rattle.refusal.specs.declared.Verdict.the-variants.{Passed}
+use Rattle.decimal.specs.Bytes.{lineFeed}
 use Rattle.decimal.specs.Digits.{digits}
 use Rattle.decimal.proofs.DigitsLaws.{digits-small, all-digits, all-every, digits-decimal, value-digits, length-pos}
 use Rattle.cnf.specs.Clause.{Clause, words}
 use Rattle.cnf.specs.Words.{clausesOf, zeros, closed, NoZero, NoZeros}
 use Rattle.cnf.proofs.WordsLaws.{words-clauses, clauses-no-zero}
 use Rattle.cnf.specs.Lent.{word}
-use Rattle.dimacs.specs.Text.{head, space, lineFeed, minus, literalText, wordText, body, headerLine, textOf, lineOf, linesOf, TextByte}
+use Rattle.dimacs.specs.Text.{head, space, minus, literalText, wordText, body, headerLine, textOf, lineOf, linesOf, TextByte}
 use Rattle.dimacs.specs.Tokens.{isGap, ended, tokens, hasMinus, unsigned, formed, wordOf, wordsOf}
 use Rattle.dimacs.specs.Rules.{tokenRules}
 use Rattle.dimacs.proofs.TokenLaws.{NoGap, tokens-gap, tokens-first, digits-no-gap, digits-no-minus}

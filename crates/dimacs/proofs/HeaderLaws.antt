@@ -8,13 +8,13 @@ use lib.IntN.{ℤ}
 use lib.ListN.{length, drop}
 use lib.Seq.{drop-drop}
 use Rattle.decimal.specs.Digits.{isDigit, value, digits}
-use Rattle.decimal.specs.Bytes.{hasAt}
+use Rattle.decimal.specs.Bytes.{lineFeed, hasAt}
 use Rattle.decimal.specs.Reading.{run, cut, fieldAt}
 use Rattle.decimal.proofs.DigitsLaws.{digits-decimal}
 use Rattle.decimal.proofs.BytesLaws.{starts-with, with-start}
 use Rattle.decimal.proofs.FieldLaws.{field-read, read-field}
 use Rattle.cnf.specs.Words.{zeros}
-use Rattle.dimacs.specs.Text.{head, space, lineFeed, body, headerLine, textOf}
+use Rattle.dimacs.specs.Text.{head, space, body, headerLine, textOf}
 use Rattle.dimacs.specs.Header.{comments, HeaderLine, variablesAt, clausesAt, isHeader, afterHeader}
 use Rattle.dimacs.specs.Rules.{headerStart}
 

@@ -10,11 +10,12 @@ use Rattle.lists.specs.Signed.{isZero, isNegative}
 use Rattle.lists.specs.Buffer.{Wrote}
 use Rattle.lists.proofs.UptoLaws.{at-most-one, sum-most, list-length}
 use Rattle.lists.proofs.BufferLaws.{put, kept, then}
+use Rattle.decimal.specs.Bytes.{lineFeed}
 use Rattle.decimal.specs.Digits.{digits}
 use Rattle.decimal.proofs.WriterLaws.{length-most}
 use Rattle.cnf.specs.Words.{zeros}
 use Rattle.cnf.specs.Lent.{word, WellWords}
-use Rattle.dimacs.specs.Text.{space, lineFeed, literalText, wordText, body, headerLine, textOf}
+use Rattle.dimacs.specs.Text.{space, literalText, wordText, body, headerLine, textOf}
 
 -- ---- how long the text is
 

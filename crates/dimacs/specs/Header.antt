@@ -5,10 +5,10 @@ use mathlib.Core.List.{List, [], _∷_, _++_}
 use Prim.Native.Nat.{ℕ, _+_}
 use lib.Dec.{eqb}
 use Rattle.decimal.specs.Digits.{isDecimal}
-use Rattle.decimal.specs.Bytes.{hasAt}
+use Rattle.decimal.specs.Bytes.{lineFeed, hasAt}
 use Rattle.decimal.specs.Reading.{readingAt, fieldAt}
 use Rattle.decimal.specs.declared.Reading.{Reading}
-use Rattle.dimacs.specs.Text.{head, space, lineFeed}
+use Rattle.dimacs.specs.Text.{head, space}
 
 -- how many bytes the comment lines at a text's front have: lines that begin with `c`, each up to its line feed or to the
 -- text's end (`inside` says whether the text begins inside such a line)

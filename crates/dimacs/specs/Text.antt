@@ -8,6 +8,7 @@ use lib.IntN.{ℤ, pos, negsuc}
 use lib.ListN.{length}
 use Rattle.lists.specs.Upto.{upTo}
 use Rattle.lists.specs.Signed.{isZero}
+use Rattle.decimal.specs.Bytes.{lineFeed}
 use Rattle.decimal.specs.Digits.{isDigit, digits}
 use Rattle.cnf.specs.Clause.{Clause}
 use Rattle.cnf.specs.Words.{zeros}
@@ -17,12 +18,9 @@ use Rattle.cnf.specs.Lent.{word}
 abbrev pub head : List ℕ
 head = 112 ∷ 32 ∷ 99 ∷ 110 ∷ 102 ∷ 32 ∷ []
 
--- a space, a line feed, and a minus
+-- a space, and a minus
 abbrev pub space : ℕ
 space = 32
-
-abbrev pub lineFeed : ℕ
-lineFeed = 10
 
 abbrev pub minus : ℕ
 minus = 45

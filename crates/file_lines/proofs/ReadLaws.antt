@@ -6,10 +6,10 @@ use Prim.Native.Nat.{ℕ, _+_, _≤_, _<_}
 use native.Mathlib.Omega.{arith}
 use lib.ListN.{length}
 use borrow.Author.Tests.{le-leb, lt-leb}
-use Rattle.decimal.specs.Bytes.{hasAt}
+use Rattle.decimal.specs.Bytes.{lineFeed, hasAt}
 use Rattle.decimal.specs.Reading.{fieldAt}
 use Rattle.decimal.proofs.BytesLaws.{has-inside}
-use Rattle.diagram_file.specs.Lines.{lineFeed, mostValue, readAfter, formedAt, lineAt}
+use Rattle.diagram_file.specs.Lines.{mostValue, readAfter, formedAt, lineAt}
 use Rattle.diagram_file.specs.declared.Line.{Line}
 
 -- a key that stands in the text ends inside it, or where it begins

@@ -3,9 +3,9 @@ use mathlib.Core.Path.{_≡_, refl, sym, _∙_, ap}
 use mathlib.Core.Bool.{Bool, true, false, cond}
 use mathlib.Core.List.{List}
 use Prim.Native.Nat.{ℕ}
-use Rattle.decimal.specs.Bytes.{hasAt}
+use Rattle.decimal.specs.Bytes.{lineFeed, hasAt}
 use Rattle.decimal.specs.Reading.{fieldAt}
-use Rattle.dimacs.specs.Text.{head, space, lineFeed}
+use Rattle.dimacs.specs.Text.{head, space}
 use Rattle.dimacs.specs.Header.{variablesAt, clausesAt, isHeader}
 use Rattle.dimacs.specs.Rules.{headerStart}
 use Rattle.text_header.specs.Header.{noHeader, headerSaid, headerAt, headerOf}

@@ -10,12 +10,12 @@ use Rattle.lists.specs.Signed.{isZero, isNegative}
 use Rattle.lists.specs.Buffer.{Wrote}
 use Rattle.lists.proofs.BufferLaws.{put-over, kept, then, wrote-next}
 use Rattle.decimal.specs.Digits.{digits}
-use Rattle.decimal.specs.Bytes.{PutPromise}
+use Rattle.decimal.specs.Bytes.{lineFeed, PutPromise}
 use Rattle.decimal.proofs.BytesLaws.{put-wrote}
 use Rattle.decimal.proofs.DigitsLaws.{digits-small, length-pos}
 use Rattle.cnf.specs.Words.{zeros}
 use Rattle.cnf.proofs.WordsLaws.{zero-only}
-use Rattle.dimacs.specs.Text.{head, space, lineFeed, minus, literalText, wordText, body, headerLine, textOf}
+use Rattle.dimacs.specs.Text.{head, space, minus, literalText, wordText, body, headerLine, textOf}
 use Rattle.dimacs.proofs.WriterLaws.{literal-size, word-length, header-length, LastByte, last-byte}
 
 -- ---- a word's text

@@ -6,10 +6,10 @@ use Prim.Native.Nat.{ℕ}
 use native.Mathlib.Omega.{arith}
 use borrow.Author.Needs.{needs}
 use borrow.Author.Tests.{not-true, not-false}
-use Rattle.decimal.specs.Bytes.{hasAt}
+use Rattle.decimal.specs.Bytes.{lineFeed, hasAt}
 use Rattle.decimal.specs.Reading.{fieldAt}
 use Rattle.decimal.specs.declared.Reading.{Reading}
-use Rattle.diagram_file.specs.Lines.{lineFeed, readAfter, formedAt}
+use Rattle.diagram_file.specs.Lines.{readAfter, formedAt}
 use Rattle.diagram_file.proofs.LineLaws.{formed-inside}
 use Rattle.file_lines.proofs.ReadLaws.{key-inside, no-key, no-field, too-much, all-there, none-read, one-read}
 use Rattle.file_lines.proofs.read_line.Statement.{statement}

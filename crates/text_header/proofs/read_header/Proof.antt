@@ -8,12 +8,12 @@ use native.Mathlib.Omega.{arith}
 use lib.ListN.{length}
 use borrow.Author.Needs.{needs}
 use borrow.Author.Tests.{not-true, not-false}
-use Rattle.decimal.specs.Bytes.{hasAt}
+use Rattle.decimal.specs.Bytes.{lineFeed, hasAt}
 use Rattle.decimal.specs.Reading.{readingAt, fieldAt}
 use Rattle.decimal.specs.declared.Reading.{Reading}
 use Rattle.decimal.proofs.BytesLaws.{has-inside}
 use Rattle.decimal.proofs.FieldLaws.{field-inside}
-use Rattle.dimacs.specs.Text.{head, space, lineFeed}
+use Rattle.dimacs.specs.Text.{head, space}
 use Rattle.dimacs.specs.Header.{variablesAt, clausesAt}
 use Rattle.text_header.specs.declared.Header.{Header}
 use Rattle.text_header.specs.Header.{headerAt, headerOf}

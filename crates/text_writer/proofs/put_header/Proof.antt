@@ -4,8 +4,9 @@ use Prim.Native.Nat.{_+_}
 use native.Mathlib.Omega.{arith}
 use borrow.Author.Needs.{needs}
 use Rattle.lists.proofs.BufferLaws.{kept}
+use Rattle.decimal.specs.Bytes.{lineFeed}
 use Rattle.decimal.specs.Digits.{digits}
-use Rattle.dimacs.specs.Text.{head, space, lineFeed, headerLine}
+use Rattle.dimacs.specs.Text.{head, space, headerLine}
 use Rattle.dimacs.proofs.WriterLaws.{LastByte}
 use Rattle.text_writer.proofs.PutLaws.{header-space, header-feed}
 use Rattle.text_writer.proofs.put_header.Statement.{statement}
