@@ -1,12 +1,13 @@
 // The encoder and the judge, each compared with the second one. Assumes nothing.
 use cnf::Encoded;
 use judge::Judged;
+use numbers::add;
 use numbers::put_word;
 use numbers::sum;
 use numbers::unlike;
 use numbers::unlike_word;
 use second::builds::Verdict;
-use second::words::Expected;
+use second_words::Expected;
 
 // What no clause has as a word.
 const MARK: i32 = 2147483647;
@@ -41,11 +42,6 @@ pub fn refused(number: usize, place: usize) -> Answer {
         clauses: 0,
         variables: 0,
     }
-}
-
-// Adds to how many words, counts, numbers, places, marks and verdicts differ.
-pub fn add(differ: &mut usize, n: usize) {
-    *differ = sum(*differ, n);
 }
 
 pub fn unlike_answers(a: Answer, b: Answer) -> usize {
@@ -101,7 +97,7 @@ fn count_encoded(
     came: Answer,
     differ: &mut usize,
 ) {
-    let right = second::words::expect(domains, layers, targets, words);
+    let right = second_words::expect(domains, layers, targets, words);
     let lost = sum(right.unlike, lost_marks(words, right.words));
     add(differ, sum(lost, unlike_answers(came, right_answer(right))));
 }

@@ -11,6 +11,11 @@ pub fn sum(a: usize, b: usize) -> usize {
     a + b
 }
 
+// Adds to a number.
+pub fn add(total: &mut usize, n: usize) {
+    *total = sum(*total, n);
+}
+
 pub fn product(a: usize, b: usize) -> usize {
     if LIMIT <= a {
         return 0;

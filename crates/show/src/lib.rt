@@ -4,6 +4,7 @@
 use cnf::Tally;
 use dimacs::TextRead;
 use libc::STDOUT_FILENO;
+use numbers::add;
 use refusal::Refusal;
 ghost use Rattle.io.specs.Counts.{Counts};
 
@@ -151,6 +152,15 @@ pub fn at_most(n: usize, bytes: &[u8]) -> usize
     ensures { λ r. ⌜ Counts r (now (bytes .entry)) ⌝ }
 {
     if bytes.len() < n { bytes.len() } else { n }
+}
+
+// Ends the line of a case, and counts what differs.
+pub fn end_case(unlike: usize, differ: &mut usize) {
+    if unlike != 0 {
+        say(b" DIFFERS");
+    }
+    say(b"\n");
+    add(differ, unlike);
 }
 
 // The last line of a program that compares: how many things differ.

@@ -1,9 +1,9 @@
--- `second::words::pair_first` is safe and ends: the measure is how many turns of the loop are left. Nothing has to
+-- `second_words::pair_first` is safe and ends: the measure is how many turns of the loop are left. Nothing has to
 -- hold from turn to turn. Assumes nothing.
 use Prim.Native.Nat.{_-_}
 use borrow.Author.Needs.{needs}
-use Rattle.second.proofs.words.pair_first.Statement.{statement}
-use Rattle.second.proofs.words.pair_first.Tie as tie
+use Rattle.second_words.proofs.pair_first.Statement.{statement}
+use Rattle.second_words.proofs.pair_first.Tie as tie
 
 abbrev Inv-loop : tie.InvT-loop
 Inv-loop d p left₀ a₀ left a = Unit {0}

@@ -1,9 +1,9 @@
--- `samples::text_samples::unlike_list` is safe and ends: the measure is how many turns of the loop are left. Nothing
+-- `text_samples::unlike_list` is safe and ends: the measure is how many turns of the loop are left. Nothing
 -- has to hold from turn to turn. Assumes nothing.
 use Prim.Native.Nat.{_-_}
 use borrow.Author.Needs.{needs}
-use Rattle.samples.proofs.text_samples.unlike_list.Statement.{statement}
-use Rattle.samples.proofs.text_samples.unlike_list.Tie as tie
+use Rattle.text_samples.proofs.unlike_list.Statement.{statement}
+use Rattle.text_samples.proofs.unlike_list.Tie as tie
 
 abbrev Inv-loop : tie.InvT-loop
 Inv-loop list words n₀ k₀ k-end n k = Unit {0}

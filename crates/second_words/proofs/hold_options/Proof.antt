@@ -1,9 +1,9 @@
--- `second::words::hold_options` is safe and ends: the measure is how many turns of the loop are left. Nothing has
+-- `second_words::hold_options` is safe and ends: the measure is how many turns of the loop are left. Nothing has
 -- to hold from turn to turn. Assumes nothing.
 use Prim.Native.Nat.{_-_}
 use borrow.Author.Needs.{needs}
-use Rattle.second.proofs.words.hold_options.Statement.{statement}
-use Rattle.second.proofs.words.hold_options.Tie as tie
+use Rattle.second_words.proofs.hold_options.Statement.{statement}
+use Rattle.second_words.proofs.hold_options.Tie as tie
 
 abbrev Inv-loop : tie.InvT-loop
 Inv-loop domains words seen₀ i₀ t7 i-end seen i = Unit {0}

@@ -1,4 +1,4 @@
--- `desk_run::run_in` meets its contract: the file's refusal, or what is printed of its diagram. Assumes nothing.
+-- `file_text::print_in` meets its contract: the file's refusal, or what is printed of its diagram. Assumes nothing.
 use mathlib.Core.Path.{_≡_, refl, ap, _∙_}
 use borrow.Author.Needs.{needs}
 use Rattle.refusal.specs.Rules.{chain}
@@ -6,8 +6,8 @@ use Rattle.diagram.specs.Lent.{Lent, lent}
 use Rattle.diagram_file.specs.Promise.{roomOf, sizes-same}
 use Rattle.desk.specs.Output.{mostSizes, listRules, diagramText}
 use Rattle.desk.proofs.RunLaws.{printed-as, begins-long, file-refused, Filled, filled, filled-diagram}
-use Rattle.desk_run.proofs.run_in.Statement.{statement}
-use Rattle.desk_run.proofs.run_in.Tie as tie
+use Rattle.file_text.proofs.print_in.Statement.{statement}
+use Rattle.file_text.proofs.print_in.Tie as tie
 
 abbrev start : tie.After-read-diagram → tie.Start
 start c = c .before .before .before .before .before .before .before .before .before
@@ -25,8 +25,8 @@ room s = sizes-same _ _ _ _ _ _ (s .pre .0) (s .pre .1) (s .pre .2)
 found : (c : tie.After-outcome2) → let n = read (c .before .before) in let s = start n in Filled (s .args .input .now) (lists s) (n .read-diagram .result) (lent (n .read-diagram .last .1 .0) (n .read-diagram .last .1 .1 .0) (n .read-diagram .last .1 .1 .1 .0)) (n .read-diagram .ensures) (room s) (c .outcome2 .given .0 .0)
 found c = let n = read (c .before .before) in filled _ _ _ _ (n .read-diagram .ensures) (room (start n)) (c .outcome2 .given .0 .0) (c .outcome2 .given .1)
 
-pub run-in-spec : {M : Type 1} → statement M
-run-in-spec =
+pub print-in-spec : {M : Type 1} → statement M
+print-in-spec =
     tie.close
     (tie.spec
     (λ c κs. search needs)

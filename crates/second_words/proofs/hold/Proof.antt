@@ -1,9 +1,9 @@
--- `second::words::hold` is safe and ends: the measure is how many turns of the loop are left. Nothing has to hold
+-- `second_words::hold` is safe and ends: the measure is how many turns of the loop are left. Nothing has to hold
 -- from turn to turn. Assumes nothing.
 use Prim.Native.Nat.{_-_}
 use borrow.Author.Needs.{needs}
-use Rattle.second.proofs.words.hold.Statement.{statement}
-use Rattle.second.proofs.words.hold.Tie as tie
+use Rattle.second_words.proofs.hold.Statement.{statement}
+use Rattle.second_words.proofs.hold.Tie as tie
 
 abbrev Inv-loop : tie.InvT-loop
 Inv-loop stretch targets words from size different₀ zeros₀ offset₀ different zeros offset = Unit {0}

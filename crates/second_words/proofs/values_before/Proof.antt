@@ -1,9 +1,9 @@
--- `second::words::values_before` is safe and ends: the measure is how many turns of the loop are left. Nothing has
+-- `second_words::values_before` is safe and ends: the measure is how many turns of the loop are left. Nothing has
 -- to hold from turn to turn. Assumes nothing.
 use Prim.Native.Nat.{_-_}
 use borrow.Author.Needs.{needs}
-use Rattle.second.proofs.words.values_before.Statement.{statement}
-use Rattle.second.proofs.words.values_before.Tie as tie
+use Rattle.second_words.proofs.values_before.Statement.{statement}
+use Rattle.second_words.proofs.values_before.Tie as tie
 
 abbrev Inv-loop : tie.InvT-loop
 Inv-loop domains i n₀ k₀ n k = Unit {0}

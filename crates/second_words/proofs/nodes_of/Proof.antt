@@ -1,9 +1,9 @@
--- `second::words::nodes_of` is safe and ends: the measure is how many turns of the loop are left. Nothing has to
+-- `second_words::nodes_of` is safe and ends: the measure is how many turns of the loop are left. Nothing has to
 -- hold from turn to turn. Assumes nothing.
 use Prim.Native.Nat.{_-_}
 use borrow.Author.Needs.{needs}
-use Rattle.second.proofs.words.nodes_of.Statement.{statement}
-use Rattle.second.proofs.words.nodes_of.Tie as tie
+use Rattle.second_words.proofs.nodes_of.Statement.{statement}
+use Rattle.second_words.proofs.nodes_of.Tie as tie
 
 abbrev Inv-loop : tie.InvT-loop
 Inv-loop layers layer n₀ v₀ v-end n v = Unit {0}

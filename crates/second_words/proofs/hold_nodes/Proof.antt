@@ -1,9 +1,9 @@
--- `second::words::hold_nodes` is safe and ends: the measure is how many turns of the loop are left. Nothing has to
+-- `second_words::hold_nodes` is safe and ends: the measure is how many turns of the loop are left. Nothing has to
 -- hold from turn to turn. Assumes nothing.
 use Prim.Native.Nat.{_-_}
 use borrow.Author.Needs.{needs}
-use Rattle.second.proofs.words.hold_nodes.Statement.{statement}
-use Rattle.second.proofs.words.hold_nodes.Tie as tie
+use Rattle.second_words.proofs.hold_nodes.Statement.{statement}
+use Rattle.second_words.proofs.hold_nodes.Tie as tie
 
 abbrev Inv-loop : tie.InvT-loop
 Inv-loop domains layers targets words walk₀ i₀ i-end walk i = Unit {0}

@@ -1,9 +1,10 @@
-// 01's samples of clause text: what came, and what is expected. Assumes nothing.
-use crate::scope_samples::end_case;
+// A program: the scope's samples of clause text, one line a sample with what came and what is expected. The last line says how
+// many things differ. Assumes nothing.
 use dimacs::TextRead;
 use numbers::sum;
 use numbers::unlike;
 use numbers::unlike_word;
+use show::end_case;
 use show::group;
 use show::read_open;
 
@@ -77,11 +78,10 @@ fn refused(differ: &mut usize) {
     read(b"p cnf 1 2\n1 0", 19, 1, &[], differ);
 }
 
-// Gives how many things differ.
-pub fn run_all() -> usize {
+fn main() {
     group(b"the scope: samples of clause text");
     let mut differ: usize = 0;
     good(&mut differ);
     refused(&mut differ);
-    differ
+    show::tell_last(differ);
 }

@@ -1,6 +1,6 @@
 // A second encoder: each word from its index, by arithmetic on where its stretch of the list begins. It writes nothing: it is
-// held against words that are there. It uses nothing of the library. Assumes nothing.
-use crate::checker;
+// held against words that are there. Of the library it uses one law on signed words, in its proofs, and no code and no
+// definition. Its functions are proved to be safe and to end, and promise no more. Assumes nothing.
 use numbers::difference;
 use numbers::entry;
 use numbers::product;
@@ -9,6 +9,7 @@ use numbers::remainder;
 use numbers::sum;
 use numbers::unlike;
 use numbers::unlike_word;
+use second::checker;
 
 // What the encoder must answer, and how many of the words that it wrote are not the second encoder's.
 pub struct Expected {

@@ -1,9 +1,9 @@
--- `second::words::words_before_nodes` is safe and ends: the measure is how many turns of the loop are left. Nothing
+-- `second_words::words_before_nodes` is safe and ends: the measure is how many turns of the loop are left. Nothing
 -- has to hold from turn to turn. Assumes nothing.
 use Prim.Native.Nat.{_-_}
 use borrow.Author.Needs.{needs}
-use Rattle.second.proofs.words.words_before_nodes.Statement.{statement}
-use Rattle.second.proofs.words.words_before_nodes.Tie as tie
+use Rattle.second_words.proofs.words_before_nodes.Statement.{statement}
+use Rattle.second_words.proofs.words_before_nodes.Tie as tie
 
 abbrev Inv-loop : tie.InvT-loop
 Inv-loop domains n₀ i₀ i-end n i = Unit {0}
