@@ -80,7 +80,7 @@ word_of (c ∷ cs) {w} m = go (Memᴰ.append_cases c m) (word_of cs)
     go (inl l) r = inr (c, Memᴰ.head refl, l)
     go (inr l) r = close (Memᴰ.cases_cons l) r
 
-pub in_words : {cs : List Clause} {c : Clause} {l : ℤ} → Memᴰ c cs → Memᴰ l c → Memᴰ l (words cs)
+pub in_words : {c : Clause} {cs : List Clause} {l : ℤ} → Memᴰ c cs → Memᴰ l c → Memᴰ l (words cs)
 unfolding words
 in_words (Memᴰ.head {x = d} {xs = cs} e) m = Memᴰ.append_left (pos 0 ∷ words cs) (subst (Memᴰ _) e m)
 in_words (Memᴰ.tail {x = d} m') m = Memᴰ.append_right d (Memᴰ.tail (in_words m' m))

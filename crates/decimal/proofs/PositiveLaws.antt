@@ -1,7 +1,7 @@
 -- Laws of a decimal of a number other than 0: what leads it. Assumes nothing.
 use mathlib.Core.Path.{◌≡◌, refl, sym, ap, ◌∙◌}
 use mathlib.Core.Logic.{◌⊎◌, inl, inr}
-use mathlib.Core.Bool.{Bool, true, false, not, cond, ◌&&◌, and-true, and_false, and-eq-true_iff}
+use mathlib.Core.Bool.{Bool, true, false, not, cond, ◌&&◌, and-true, and-false, and-eq-true_iff}
 use mathlib.Core.List.{List, [], ◌∷◌}
 use Prim.Native.Nat.{ℕ, ◌+◌, ◌-◌, ◌*◌, ◌≤◌, ◌<◌}
 use native.Mathlib.Omega.{arith}
@@ -44,8 +44,8 @@ nothing_positive = rw nothing_decimal
 
 zero_led : (bs : List ℕ) → is_positive (48 ∷ bs) ≡ false
 unfolding is_decimal plain value value_from
-zero_led [] = and_false (all_digits (48 ∷ []) && true)
-zero_led (b ∷ bs) = rw (and_false (all_digits (48 ∷ b ∷ bs)))
+zero_led [] = and-false (all_digits (48 ∷ []) && true)
+zero_led (b ∷ bs) = rw (and-false (all_digits (48 ∷ b ∷ bs)))
 
 module _ (s : List ℕ) (at : ℕ) where
   -- a number other than 0 is led by a digit other than 0

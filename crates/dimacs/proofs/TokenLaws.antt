@@ -1,7 +1,7 @@
 -- Laws of the tokens of a text: where one begins and ends, and how code that reads the digits at it judges it. Assumes nothing.
 use mathlib.Core.Path.{◌≡◌, refl, sym, ap, ◌∙◌}
 use mathlib.Core.Logic.{◌⊎◌, inl, inr}
-use mathlib.Core.Bool.{Bool, true, false, cond, not, ◌&&◌, and_false, and-eq-true_iff}
+use mathlib.Core.Bool.{Bool, true, false, cond, not, ◌&&◌, and-false, and-eq-true_iff}
 use mathlib.Core.List.Memᴰ
 use mathlib.Core.List.{List, [], ◌∷◌, ◌++◌}
 use Prim.Native.Nat.{ℕ, zero, suc, ◌+◌, ◌≤◌, ◌<◌}
@@ -200,7 +200,7 @@ judged m s = go (ended (drop (length (run s)) s)) refl
   where
     go : (t : Bool) → ended (drop (length (run s)) s) ≡ t → (is_decimal (lead s) && not (m && eqb (value (lead s)) 0)) ≡ (is_decimal (run s) && (t && not (m && eqb (cut (value (run s))) 0)))
     go true e = rw (lead_run s e, cut_zero)
-    go false e = rw (lead_other s e) (sym (and_false (is_decimal (run s))))
+    go false e = rw (lead_other s e) (sym (and-false (is_decimal (run s))))
 
 module _ {text : List ℕ} {i : ℕ} {m : Bool} {from : ℕ} {r : Reading} (k : TokenAt text i m from r) where
   has_minus_lem : has_minus (lead (drop i text)) ≡ m

@@ -1,6 +1,7 @@
 // The program: reads a diagram file from standard input and prints its clause text, or two lines that tell why it is refused.
 // What it does is `run` of the crate `desk`; here are only reading and writing. A reading or writing that fails counts as the
 // end of the file. Assumes nothing.
+#![tactic(auto)]
 mod advice;
 
 ghost use Rattle.std.specs.Prelude.{◌≡◌, length};

@@ -1,4 +1,5 @@
 // The six entries of an answer through the C interface, put into a lent answer. Assumes nothing.
+#![tactic(auto)]
 ghost use Rattle.std.specs.Prelude.{[], ◌∷◌};
 ghost use Rattle.refusal.specs.Said.{refused, result};
 ghost use Rattle.entries.specs.Answer.{Posted, Answered};

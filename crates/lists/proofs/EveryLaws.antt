@@ -40,5 +40,6 @@ entry_in a (x ∷ l) (suc k) h = Memᴰ.tail (entry_in a l k (omega arith))
 
 -- what is in the list is an entry
 pub in_entry : {A : Type 0} (a : A) {x : A} (l : List A) → Memᴰ x l → (k : ℕ) × (k < length l) × (get_or l k a ≡ x)
+in_entry {A = A} a [] x'' = elim x'' [ ]
 in_entry a (y ∷ l) (Memᴰ.head e) = (0, omega arith, sym e)
 in_entry a (y ∷ l) (Memᴰ.tail m) = let t = in_entry a l m in let h : t.0 < length l = t.1 in (suc t.0, omega arith, t.2)

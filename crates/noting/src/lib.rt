@@ -1,4 +1,5 @@
 // The mark of one variable, in a list of marks, the first variable's first. Assumes nothing.
+#![tactic(auto)]
 ghost use Rattle.std.specs.Prelude.{◌≡◌};
 ghost use Rattle.naming.specs.Marks.{has_mark, with_mark};
 

@@ -1,4 +1,6 @@
 // The options of a lent diagram: numbers 1 and 2, which are about its domains alone. Assumes nothing.
+#![tactic(auto)]
+
 ghost use Rattle.std.specs.Prelude.{◌≡◌, [], length};
 ghost use Rattle.lists.specs.First.{first};
 ghost use Rattle.refusal.specs.Rules.{chain};

@@ -1,4 +1,5 @@
 // How many pairs the values of an option have. Assumes nothing.
+#![tactic(auto)]
 ghost use Rattle.std.specs.Prelude.{◌≡◌};
 ghost use Rattle.clauses.specs.Clauses.{pair_count};
 

@@ -1,4 +1,5 @@
 // Refusals: a number and a place, the numbers by name, and the verdict of one rule. Assumes nothing.
+#![tactic(auto)]
 ghost use Rattle.std.specs.Prelude.{◌≡◌, [], ◌∷◌};
 ghost use Rattle.refusal.specs.Rules.{rule, chain};
 

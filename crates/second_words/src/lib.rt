@@ -1,6 +1,7 @@
 // A second encoder: each word from its index, by arithmetic on where its stretch of the list begins. It writes nothing: it is
 // held against words that are there. Of the library it uses one law on signed words, in its proofs, and no code and no
 // definition. Its functions are proved to be safe and to end, and promise no more. Assumes nothing.
+#![tactic(auto)]
 use numbers::{difference, entry, product, quotient, remainder, sum, unlike, unlike_word};
 use second::checker;
 

@@ -1,6 +1,7 @@
 // Printing for the programs that run samples and cases: fixed bytes, numbers, words, bytes as a person reads them, and what a
 // reading of clause text gives. Its functions are proved to be safe and to end; no contract can say what is printed. Assumes
 // nothing.
+#![tactic(auto)]
 ghost use Rattle.io.specs.Counts.{IsPrefixLen};
 
 use cnf::Tally;

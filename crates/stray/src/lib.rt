@@ -1,5 +1,6 @@
 // References that stray from a range: the first one in a list of targets. It speaks of lists of numbers alone, and knows no diagram.
 // Assumes nothing.
+#![tactic(auto)]
 ghost use Rattle.std.specs.Prelude.{◌≡◌, ℕ, ◌+◌, ◌<◌, ◌≤◌, true, length, slice_index};
 ghost use Rattle.lists.specs.First.{first};
 ghost use Rattle.stray.specs.Stray.{stray, Spans};
