@@ -1,5 +1,6 @@
 // Writing fixed bytes into a lent buffer, from a place on. Assumes nothing.
 #![tactic(auto)]
+
 ghost use Rattle.decimal.specs.Bytes.{PutPromise};
 
 // Puts the key into `out` from `at` on, if there is room for it, and answers how long it is.

@@ -1,5 +1,6 @@
 // Writing the decimal of a number by pairs of digits, for long lists of numbers. Assumes nothing.
 #![tactic(auto)]
+
 ghost use Rattle.std.specs.Prelude.{◌+◌, ◌≤◌, ◌<◌, length};
 ghost use Rattle.lists.specs.Buffer.{Wrote};
 ghost use Rattle.decimal.specs.Digits.{digits};

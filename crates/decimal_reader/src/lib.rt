@@ -1,5 +1,6 @@
 // Reading a decimal at a place of a text. Whatever reads a number in text leans on this. Assumes nothing.
 #![tactic(auto)]
+
 ghost use Rattle.std.specs.Prelude.{◌≡◌, ◌+◌, ◌-◌, ◌*◌, ◌≤◌};
 ghost use Rattle.decimal.specs.Reading.{cut, reading_at};
 

@@ -1,5 +1,6 @@
 // How many digits the decimal of a number has, told by comparisons. Assumes nothing.
 #![tactic(auto)]
+
 ghost use Rattle.std.specs.Prelude.{◌≡◌, ◌≤◌};
 ghost use Rattle.decimal.specs.Digits.{short_width, reached};
 

@@ -1,6 +1,7 @@
 // Writing the decimal of a number into a lent buffer, from a place on, digit by digit. Whatever writes a number as text leans
 // on this. Assumes nothing.
 #![tactic(auto)]
+
 ghost use Rattle.std.specs.Prelude.{◌≡◌, ◌+◌, ◌≤◌, length};
 ghost use Rattle.lists.specs.Buffer.{Wrote};
 ghost use Rattle.decimal.specs.Digits.{digits};

@@ -1,5 +1,6 @@
 // Which bytes are digits. Assumes nothing.
 #![tactic(auto)]
+
 ghost use Rattle.std.specs.Prelude.{◌≡◌};
 ghost use Rattle.decimal.specs.Digits.{is_digit};
 

@@ -1,5 +1,6 @@
 // A text compared with fixed bytes: a key that stands at a place of it, and the byte after a decimal. Assumes nothing.
 #![tactic(auto)]
+
 ghost use Rattle.std.specs.Prelude.{◌≡◌};
 ghost use Rattle.decimal.specs.Bytes.{has_at};
 ghost use Rattle.decimal.specs.Reading.{field_at};

@@ -1,6 +1,7 @@
 // The literals of a solver's model: number 10, the first that is out of range. It speaks of a list of literals and a last
 // variable alone, and knows no diagram. Assumes nothing.
 #![tactic(auto)]
+
 ghost use Rattle.std.specs.Prelude.{◌≡◌, ◌≤◌, min, length};
 ghost use Rattle.lists.specs.Upto.{count_to};
 ghost use Rattle.lists.specs.First.{first};

@@ -1,5 +1,6 @@
 // Whether bytes fit into a lent buffer, from a place on. Assumes nothing.
 #![tactic(auto)]
+
 ghost use Rattle.std.specs.Prelude.{◌≡◌, ◌+◌, leb};
 
 // Whether `count` bytes fit from `at` on.

@@ -2,5 +2,6 @@
 // library. Its functions are proved to be safe and to end, and promise no more: a difference shows that one of the two is wrong.
 // Assumes nothing.
 #![tactic(auto)]
+
 pub mod builds;
 pub mod checker;

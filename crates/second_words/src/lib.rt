@@ -6,7 +6,7 @@ use numbers::{difference, entry, product, quotient, remainder, sum, unlike, unli
 use second::checker;
 
 // What the encoder must answer, and how many of the words that it wrote are not the second encoder's.
-#[derive(Drop)]
+#[derive(Clone, Copy)]
 pub struct Expected {
     pub number: usize,
     pub place: usize,
@@ -143,7 +143,7 @@ fn edge_word(edge: usize, node: usize, target: usize, value: usize, offset: usiz
 
 // A layer's nodes with their edges: the variables of its option's first value, of F, of its first node and of its first edge;
 // the domain; and the index of its first edge.
-#[derive(Drop)]
+#[derive(Clone, Copy)]
 struct Layer {
     value: usize,
     domain: usize,
@@ -193,7 +193,7 @@ fn layer_word(layer: Layer, targets: &[u32], offset: usize) -> i32 {
 // ---- the words that are there, held against these
 
 // The stretches of the list: an option's values and pairs, the ends, and a layer's nodes.
-#[derive(Drop)]
+#[derive(Clone, Copy)]
 enum Stretch {
     Option(usize, usize),
     Ends(usize),
@@ -209,7 +209,7 @@ fn word(stretch: Stretch, targets: &[u32], offset: usize) -> i32 {
 }
 
 // How many words are unlike, how many of the second encoder's are 0, and the index past the last.
-#[derive(Drop)]
+#[derive(Clone, Copy)]
 struct Seen {
     unlike: usize,
     zeros: usize,
@@ -271,7 +271,7 @@ fn layer_of(domains: &[u32], layers: &[u32], i: usize, before: usize, edges: usi
 }
 
 // What was seen of the layers so far, and how many nodes and edges they have.
-#[derive(Drop)]
+#[derive(Clone, Copy)]
 struct Walk {
     seen: Seen,
     nodes: usize,

@@ -1,6 +1,7 @@
 // References that stray from a range: the first one in a list of targets. It speaks of lists of numbers alone, and knows no diagram.
 // Assumes nothing.
 #![tactic(auto)]
+
 ghost use Rattle.std.specs.Prelude.{◌≡◌, ℕ, ◌+◌, ◌<◌, ◌≤◌, true, length, slice_index};
 ghost use Rattle.lists.specs.First.{first};
 ghost use Rattle.stray.specs.Stray.{stray, Spans};
@@ -8,7 +9,7 @@ ghost use Rattle.stray.specs.Stray.{stray, Spans};
 use lists::Found;
 
 // Where the edges of a layer may lead: to a reference below `ends`, or to one from `low` to before `high`.
-#[derive(Drop)]
+#[derive(Clone, Copy)]
 pub struct Range {
     pub ends: u32,
     pub low: u32,
@@ -28,7 +29,7 @@ fn is_stray(range: Range, t: u32) -> bool
 }
 
 // How far a layer's targets spread: none is above `most`, and none from `ends` on is nearer to it than `least`.
-#[derive(Drop)]
+#[derive(Clone, Copy)]
 struct Span {
     least: u32,
     most: u32,

@@ -1,5 +1,6 @@
 // The variable that a literal names, for every literal. Assumes nothing.
 #![tactic(auto)]
+
 ghost use Rattle.std.specs.Prelude.{◌≡◌, nat_abs};
 
 // One more is added before the sign is turned, and taken into account after it: so that no literal is too far below 0.
