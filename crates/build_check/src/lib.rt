@@ -1,5 +1,6 @@
 // What a build must be before it is judged, numbers 8 and 9; and the answer of one that is not refused. Assumes nothing.
 #![tactic(auto)]
+
 ghost use Rattle.std.specs.Prelude.{◌≡◌, [], length};
 ghost use Rattle.lists.specs.First.{first};
 ghost use Rattle.refusal.specs.Rules.{chain};

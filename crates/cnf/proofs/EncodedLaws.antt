@@ -9,7 +9,7 @@ use lib.IntN.{ℤ}
 use Rattle.lists.specs.Buffer.{over}
 use Rattle.lists.proofs.BufferLaws.{over_parts}
 use Rattle.refusal.specs.Rules.{Rule, refusal, room_rule, chain}
-use Rattle.refusal.specs.Said.{result}
+use Rattle.refusal.specs.Said.{result_of}
 use Rattle.refusal.specs.Table.{Row, ExactlyWhen}
 use Rattle.refusal.specs.declared.Refusal.{Refusal}
 use Rattle.refusal.specs.declared.Verdict.TheVariants.{Passed, Refused as Refusing}
@@ -56,7 +56,7 @@ module _ (cs : List Clause) (last : ℕ) (before : List ℤ) where
     pub written_exactly : (t : Tally) → (answer.outcome ≡ Written t) ↔ ((chain rules ≡ Passed) × (t ≡ tally_of cs last))
     written_exactly t =
         let w = tells.told_result (Written t) _ _ refl in
-        ((λ q. let p = w.0 q in (p.0, own (encoded_said_once (Written t) (Written (tally_of cs last)) p.1))), (λ p. w.1 (p.0, ap (λ (t : Tally). result (tally_said t)) p.1)))
+        ((λ q. let p = w.0 q in (p.0, own (encoded_said_once (Written t) (Written (tally_of cs last)) p.1))), (λ p. w.1 (p.0, ap (λ (t : Tally). result_of (tally_said t)) p.1)))
       where
         own : {s t : Tally} → Written s ≡ Written t → s ≡ t
         own e = cc

@@ -4,7 +4,7 @@ use Rattle.std.specs.Prelude.{◌≡◌, List, [], ◌∷◌, ℕ, length, get_o
 use Rattle.std.proofs.Common.{ap}
 use Rattle.lists.specs.Buffer.{over}
 use Rattle.refusal.specs.Rules.{Rule}
-use Rattle.refusal.specs.Said.{Said, refused, result}
+use Rattle.refusal.specs.Said.{Said, refused, result_of}
 use Rattle.refusal.specs.Answered.{AnsweredBy, answered_once}
 use Rattle.refusal.proofs.SaidLaws.{refused_one}
 use Rattle.cnf.specs.Clause.{Clause, words}
@@ -26,7 +26,7 @@ tally_said t = t.words ∷ t.clauses ∷ t.variables ∷ []
 
 -- the number and the values of each case
 abbrev pub encoded_said : Encoded → Said
-encoded_said (Written t) = result (tally_said t)
+encoded_said (Written t) = result_of (tally_said t)
 encoded_said (Refused r) = refused r
 
 -- the answer is the first refusal of the rules that is due, and the buffer is kept; or else the words of the clauses stand

@@ -5,20 +5,20 @@
 use refusal::Refusal;
 
 // What a written list has: its words, its clauses, and V, the last variable.
-#[derive(Drop)]
+#[derive(Clone, Copy)]
 pub struct Tally {
     pub words: usize,
     pub clauses: u32,
     pub variables: u32,
 }
 
-#[derive(Drop)]
+#[derive(Clone, Copy)]
 pub enum Encoded {
     Written(Tally),
     Refused(Refusal),
 }
 
-#[derive(Drop)]
+#[derive(Clone, Copy)]
 pub struct EncodeAnswer {
     pub outcome: Encoded,
 }

@@ -9,7 +9,7 @@ use second_words::Expected;
 const MARK: i32 = 2147483647;
 
 // What the encoder answered: a refusal's number (0 is none) and place, or the counts.
-#[derive(Drop)]
+#[derive(Clone, Copy)]
 pub struct Answer {
     pub number: usize,
     pub place: usize,

@@ -4,7 +4,7 @@
 
 // Digits that were read: whether they are a decimal, the number that they say, or 10000000000 where it is more, and the
 // place past the last.
-#[derive(Drop)]
+#[derive(Clone, Copy)]
 pub struct Reading {
     pub good: bool,
     pub value: u64,

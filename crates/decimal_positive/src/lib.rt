@@ -1,6 +1,7 @@
 // Reading the decimal of a number other than 0 in a long text: mostly fewer than eight digits, with eight bytes to look at.
 // Assumes nothing.
 #![tactic(auto)]
+
 ghost use Rattle.std.specs.Prelude.{◌≡◌, true, ◌+◌, ◌≤◌, ◌<◌, length};
 ghost use Rattle.decimal.specs.Reading.{leads_at, positive_at};
 

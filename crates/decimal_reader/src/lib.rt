@@ -7,7 +7,7 @@ ghost use Rattle.decimal.specs.Reading.{cut, reading_at};
 use decimal::Reading;
 
 // Digits that were read, whether they are a decimal or not.
-#[derive(Drop)]
+#[derive(Clone, Copy)]
 struct Digits {
     value: u64,
     end: usize,

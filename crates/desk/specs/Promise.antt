@@ -3,7 +3,7 @@ use Rattle.std.specs.Prelude.{◌≡◌, List, [], ◌∷◌, ℕ, length, get_o
 use Rattle.std.proofs.Common.{ap}
 use Rattle.lists.specs.Buffer.{over}
 use Rattle.refusal.specs.Rules.{refusal, room_rule, chain}
-use Rattle.refusal.specs.Said.{Said, refused, result}
+use Rattle.refusal.specs.Said.{Said, refused, result_of}
 use Rattle.refusal.specs.Table.{GivenIn, NoneDue}
 use Rattle.refusal.specs.Answered.{AnsweredBy, answered_once}
 use Rattle.refusal.specs.declared.Verdict.{Verdict}
@@ -17,8 +17,8 @@ use Rattle.desk.specs.declared.DeskAnswer.{DeskAnswer}
 
 -- the number and the values of each case: how many bytes are printed and, where they tell a refusal, which one
 abbrev pub desk_said : DeskRun → Said
-desk_said (Text bytes) = result (bytes ∷ [])
-desk_said (Told bytes r) = result (bytes ∷ r.number ∷ r.place ∷ [])
+desk_said (Text bytes) = result_of (bytes ∷ [])
+desk_said (Told bytes r) = result_of (bytes ∷ r.number ∷ r.place ∷ [])
 desk_said (Refused r) = refused r
 
 -- where all of it fits: a verdict's refusal is told, or else a text is printed

@@ -5,14 +5,14 @@ use refusal::Refusal;
 
 // What was printed: a clause text, or the two lines of a refusal; and how many bytes. Number 7 where the lent buffer is too
 // short for it.
-#[derive(Drop)]
+#[derive(Clone, Copy)]
 pub enum DeskRun {
     Text(usize),
     Told(usize, Refusal),
     Refused(Refusal),
 }
 
-#[derive(Drop)]
+#[derive(Clone, Copy)]
 pub struct DeskAnswer {
     pub outcome: DeskRun,
 }

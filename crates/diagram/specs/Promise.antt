@@ -2,7 +2,7 @@
 use Rattle.std.specs.Prelude.{◌≡◌, List, [], ◌∷◌, ℕ, get_or}
 use Rattle.std.proofs.Common.{sym, ◌∙◌, ap}
 use Rattle.refusal.specs.Rules.{chain}
-use Rattle.refusal.specs.Said.{Said, refused, result, saying}
+use Rattle.refusal.specs.Said.{Said, refused, result_of, saying}
 use Rattle.refusal.proofs.SaidLaws.{refused_one}
 use Rattle.diagram.specs.Lent.{Lent, options, nodes, edges}
 use Rattle.diagram.specs.Numbers.{values}
@@ -18,7 +18,7 @@ counts_said c = c.options ∷ c.nodes ∷ c.values ∷ c.edges ∷ []
 
 -- the number and the values of each case
 abbrev pub check_said : Checked → Said
-check_said (Sound c) = result (counts_said c)
+check_said (Sound c) = result_of (counts_said c)
 check_said (Refused r) = refused r
 
 -- a diagram's own counts

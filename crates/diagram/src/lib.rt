@@ -9,7 +9,7 @@ ghost use Rattle.diagram.specs.Numbers.{value_number, reference_number, edge_num
 use refusal::Refusal;
 
 // A sound diagram's counts: options (n), nodes (s), values (D) and edges (E).
-#[derive(Drop)]
+#[derive(Clone, Copy)]
 pub struct Diagram {
     pub options: u32,
     pub nodes: u32,
@@ -17,13 +17,13 @@ pub struct Diagram {
     pub edges: u32,
 }
 
-#[derive(Drop)]
+#[derive(Clone, Copy)]
 pub enum Checked {
     Sound(Diagram),
     Refused(Refusal),
 }
 
-#[derive(Drop)]
+#[derive(Clone, Copy)]
 pub struct CheckAnswer {
     pub outcome: Checked,
 }

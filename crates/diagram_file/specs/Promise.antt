@@ -4,7 +4,7 @@ use Rattle.std.specs.Prelude.{◌≡◌, List, [], ◌∷◌, ℕ, length, get_o
 use Rattle.std.proofs.Common.{ap}
 use Rattle.lists.specs.Buffer.{over}
 use Rattle.refusal.specs.Rules.{Rule}
-use Rattle.refusal.specs.Said.{Said, refused, result}
+use Rattle.refusal.specs.Said.{Said, refused, result_of}
 use Rattle.refusal.specs.Answered.{AnsweredBy, answered_once}
 use Rattle.refusal.proofs.SaidLaws.{refused_one}
 use Rattle.diagram.specs.Lent.{Lent, lent}
@@ -25,7 +25,7 @@ sizes_said s = s.options ∷ s.nodes ∷ s.edges ∷ []
 
 -- the number and the values of each case
 abbrev pub file_said : FileRead → Said
-file_said (Read s) = result (sizes_said s)
+file_said (Read s) = result_of (sizes_said s)
 file_said (Refused r) = refused r
 
 abbrev pub sizes_of : List ℕ → Sizes

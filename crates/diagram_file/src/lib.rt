@@ -3,26 +3,26 @@
 #![tactic(auto)]
 use refusal::Refusal;
 
-#[derive(Drop)]
+#[derive(Clone, Copy)]
 pub struct Sizes {
     pub options: usize,
     pub nodes: usize,
     pub edges: usize,
 }
 
-#[derive(Drop)]
+#[derive(Clone, Copy)]
 pub enum FileRead {
     Read(Sizes),
     Refused(Refusal),
 }
 
-#[derive(Drop)]
+#[derive(Clone, Copy)]
 pub struct FileAnswer {
     pub outcome: FileRead,
 }
 
 // A line's value, where it has the form, and where the next line begins.
-#[derive(Drop)]
+#[derive(Clone, Copy)]
 pub struct Line {
     pub formed: bool,
     pub value: u32,

@@ -8,7 +8,7 @@ use lib.ListN.{length, take, drop}
 use Rattle.lists.specs.Buffer.{over}
 use Rattle.lists.proofs.BufferLaws.{over_parts}
 use Rattle.refusal.specs.Rules.{chain}
-use Rattle.refusal.specs.Said.{Said, result}
+use Rattle.refusal.specs.Said.{Said, result_of}
 use Rattle.refusal.specs.Table.{NoneDue, ExactlyWhen}
 use Rattle.refusal.specs.declared.Refusal.{Refusal}
 use Rattle.refusal.specs.declared.Verdict.TheVariants.{Passed}
@@ -43,7 +43,7 @@ module _ (text : List ℕ) (before : List ℤ) where
     read_passed t =
         let w = tells.told_result (Read t) _ _ refl in (
           (λ q. let p = w.0 q in (p.0, tally_said_once t tallied (ap (λ (s : Said). s.values) p.1))),
-          (λ p. w.1 (p.0, ap (λ (t : Tally). result (tally_said t)) p.1)),
+          (λ p. w.1 (p.0, ap (λ (t : Tally). result_of (tally_said t)) p.1)),
         )
 
     -- the same in words: no row of the table is due

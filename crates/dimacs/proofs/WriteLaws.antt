@@ -8,7 +8,7 @@ use lib.ListN.{length, get_or, take, drop}
 use Rattle.lists.specs.Buffer.{over}
 use Rattle.lists.proofs.BufferLaws.{over_parts}
 use Rattle.refusal.specs.Rules.{Rule, room_rule, chain}
-use Rattle.refusal.specs.Said.{Said, result}
+use Rattle.refusal.specs.Said.{Said, result_of}
 use Rattle.refusal.specs.Table.{room_row, ExactlyWhen}
 use Rattle.refusal.specs.declared.Refusal.{Refusal}
 use Rattle.refusal.specs.declared.Verdict.TheVariants.{Passed}
@@ -62,7 +62,7 @@ module _ (v : ℕ) (ws : List ℤ) where
       written_exactly n =
           let r = tells.told_result (Written n) _ _ refl in (
             (λ q. let p = r.0 q in let w = (all_passed (length before)).0 p.0 in (w.0, w.1, ap (λ (s : Said). get_or s.values 0 0) p.1)),
-            (λ w. r.1 ((all_passed (length before)).1 (w.0, w.1), ap (λ (k : ℕ). result (k ∷ [])) w.2)),
+            (λ w. r.1 ((all_passed (length before)).1 (w.0, w.1), ap (λ (k : ℕ). result_of (k ∷ [])) w.2)),
           )
 
       -- the bytes are exactly the text's, and what lies past them is kept

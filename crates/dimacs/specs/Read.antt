@@ -3,7 +3,7 @@ use Rattle.std.specs.Prelude.{◌≡◌, List, ℕ, ℤ, length}
 use Rattle.std.proofs.Common.{ap}
 use Rattle.lists.specs.Buffer.{over}
 use Rattle.refusal.specs.Rules.{Rule}
-use Rattle.refusal.specs.Said.{Said, refused, result}
+use Rattle.refusal.specs.Said.{Said, refused, result_of}
 use Rattle.refusal.specs.Answered.{AnsweredBy, answered_once}
 use Rattle.refusal.proofs.SaidLaws.{refused_one}
 use Rattle.cnf.specs.Words.{zeros}
@@ -16,7 +16,7 @@ use Rattle.dimacs.specs.declared.ReadAnswer.{ReadAnswer}
 
 -- the number and the values of each case
 abbrev pub read_said : TextRead → Said
-read_said (Read t) = result (tally_said t)
+read_said (Read t) = result_of (tally_said t)
 read_said (Refused r) = refused r
 
 -- the words of a text, how many they are, its clauses, and the header's V

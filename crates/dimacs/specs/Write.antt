@@ -3,7 +3,7 @@ use Rattle.std.specs.Prelude.{◌≡◌, List, [], ◌∷◌, ◌++◌, ℕ, ℤ
 use Rattle.std.proofs.Common.{ap}
 use Rattle.lists.specs.Buffer.{over}
 use Rattle.refusal.specs.Rules.{Rule, room_rule}
-use Rattle.refusal.specs.Said.{Said, refused, result}
+use Rattle.refusal.specs.Said.{Said, refused, result_of}
 use Rattle.refusal.specs.Table.{Row, room_row}
 use Rattle.refusal.specs.Answered.{AnsweredBy, answered_once}
 use Rattle.refusal.proofs.SaidLaws.{refused_one}
@@ -22,7 +22,7 @@ write_table v ws room = word_table v ws ++ (room_row (length (text_of v ws)) roo
 
 -- the number and the values of each case
 abbrev pub written_said : TextWritten → Said
-written_said (Written bytes) = result (bytes ∷ [])
+written_said (Written bytes) = result_of (bytes ∷ [])
 written_said (Refused r) = refused r
 
 -- the answer is the first refusal of the rules that is due, and the buffer is kept; or else the text stands at the buffer's

@@ -1,7 +1,8 @@
 // The six entries of an answer through the C interface, put into a lent answer. Assumes nothing.
 #![tactic(auto)]
+
 ghost use Rattle.std.specs.Prelude.{[], ◌∷◌};
-ghost use Rattle.refusal.specs.Said.{refused, result};
+ghost use Rattle.refusal.specs.Said.{refused, result_of};
 ghost use Rattle.entries.specs.Answer.{Posted, Answered};
 
 use refusal::Refusal;
@@ -11,7 +12,7 @@ pub const ENTRIES: usize = 6;
 
 // Puts the six entries at the answer's front, if there is room for them.
 fn post(answer: &mut [u64], number: u32, place: usize, a: usize, b: u32, c: u32)
-    ensures* { λ _. ⌜ Posted (number ∷ place ∷ a ∷ b ∷ c ∷ 0 ∷ []) answer.old answer.new ⌝ }
+    ensures { Posted (number ∷ place ∷ a ∷ b ∷ c ∷ 0 ∷ []) answer.old answer.new }
 {
     if answer.len() < ENTRIES {
         return;
@@ -25,13 +26,13 @@ fn post(answer: &mut [u64], number: u32, place: usize, a: usize, b: u32, c: u32)
 }
 
 pub fn post_refusal(answer: &mut [u64], r: Refusal)
-    ensures* { λ _. ⌜ Answered (refused r) answer.old answer.new ⌝ }
+    ensures { Answered (refused r) answer.old answer.new }
 {
     post(answer, r.number, r.place, 0, 0, 0);
 }
 
 pub fn post_result(answer: &mut [u64], a: usize, b: u32, c: u32)
-    ensures* { λ _. ⌜ Answered (result (a ∷ b ∷ c ∷ [])) answer.old answer.new ⌝ }
+    ensures { Answered (result_of (a ∷ b ∷ c ∷ [])) answer.old answer.new }
 {
     post(answer, 0, 0, a, b, c);
 }

@@ -11,14 +11,14 @@ use lists::Found;
 use refusal::{Refusal, Verdict};
 
 // Where a line begins, and how many stand before it.
-#[derive(Drop)]
+#[derive(Clone, Copy)]
 struct Cursor {
     at: usize,
     line: usize,
 }
 
 // What was found of some lines: a refusal, or where they end.
-#[derive(Drop)]
+#[derive(Clone, Copy)]
 enum Lines {
     Refused(Refusal),
     Passed(Cursor),

@@ -1,5 +1,6 @@
 // One line of a diagram file: the key, a value, and a line feed. Assumes nothing.
 #![tactic(auto)]
+
 ghost use Rattle.std.specs.Prelude.{◌≡◌, false};
 ghost use Rattle.diagram_file.specs.Lines.{line_at};
 

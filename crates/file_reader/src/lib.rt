@@ -10,7 +10,7 @@ use diagram_file::{DOMAIN, EDGES, FileAnswer, FileRead, LAYER, NODES, OPTIONS, S
 use refusal::Verdict;
 
 // How many values a part of the file has, and where the line after it begins.
-#[derive(Drop)]
+#[derive(Clone, Copy)]
 struct Filled {
     count: usize,
     next: usize,

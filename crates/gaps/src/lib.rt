@@ -1,5 +1,6 @@
 // What parts the tokens of a clause text. Assumes nothing.
 #![tactic(auto)]
+
 ghost use Rattle.std.specs.Prelude.{◌≡◌, drop};
 ghost use Rattle.dimacs.specs.Tokens.{is_gap, ended};
 

@@ -12,7 +12,7 @@ use borrow.Author.Tests.{leb-true, leb-false, eqb-true, eqb-false, eq-eqb, ne_eq
 use Rattle.lists.specs.First.{found_if, first, FirstFailing}
 use Rattle.lists.proofs.FirstLaws.{Tests, tests_each, tests_equal}
 use Rattle.refusal.specs.Rules.{chain}
-use Rattle.refusal.specs.Said.{Said, result, saying}
+use Rattle.refusal.specs.Said.{Said, result_of, saying}
 use Rattle.refusal.specs.Table.{ExactlyWhen}
 use Rattle.refusal.specs.declared.Refusal.{Refusal}
 use Rattle.refusal.specs.declared.Verdict.{Verdict}
@@ -76,7 +76,7 @@ module _ (d : Lent) (build : List ℕ) where
   unfolding judge_rules
   judge_goes_on answer e j = record { says = j.says ∙ ap (λ (v : Verdict). saying v (cond (allows_test d build) 1 0 ∷ [])) (passes (check_rules d) (build_rules d build) refl e refl) }
 
-  answer_says : (b : Bool) → judge_said (cond b Allowed NotAllowed) ≡ result (cond b 1 0 ∷ [])
+  answer_says : (b : Bool) → judge_said (cond b Allowed NotAllowed) ≡ result_of (cond b 1 0 ∷ [])
   answer_says true = refl
   answer_says false = refl
 
@@ -98,8 +98,8 @@ module _ (d : Lent) (build : List ℕ) where
     judge_exactly_when = exactly_when (judge_rules d build) (judge_table d build) judge_faithful refused_exactly
 
     -- the two results: the walk's test, and what it is for
-    results : (o : Judged) (b : Bool) (u : ℕ) → judge_said o ≡ result (u ∷ []) → u ≡ cond b 1 0 → Sound d × Fits d build → allows_test d build ≡ b → answer.outcome ≡ o
-    results o b u e q w t = judge_said_once answer.outcome o (promise.says ∙ rw (all_passed.1 w, t) (sym (e ∙ ap (λ (n : ℕ). result (n ∷ [])) q)))
+    results : (o : Judged) (b : Bool) (u : ℕ) → judge_said o ≡ result_of (u ∷ []) → u ≡ cond b 1 0 → Sound d × Fits d build → allows_test d build ≡ b → answer.outcome ≡ o
+    results o b u e q w t = judge_said_once answer.outcome o (promise.says ∙ rw (all_passed.1 w, t) (sym (e ∙ ap (λ (n : ℕ). result_of (n ∷ [])) q)))
 
     -- of a sound diagram and a build that fits it, the answer is what the walk's test says
     pub judged_by_test : Sound d × Fits d build → answer.outcome ≡ cond (allows_test d build) Allowed NotAllowed
@@ -109,11 +109,11 @@ module _ (d : Lent) (build : List ℕ) where
         go true e = results Allowed true 1 refl refl w e
         go false e = results NotAllowed false 0 refl refl w e
 
-    tells : (o : Judged) (u : ℕ) → judge_said o ≡ result (u ∷ []) → answer.outcome ≡ o → (Sound d × Fits d build) × (u ≡ cond (allows_test d build) 1 0)
+    tells : (o : Judged) (u : ℕ) → judge_said o ≡ result_of (u ∷ []) → answer.outcome ≡ o → (Sound d × Fits d build) × (u ≡ cond (allows_test d build) 1 0)
     tells o u e q =
         let s = sym (ap judge_said q ∙ e) ∙ promise.says in
         let p = said_passed (chain (judge_rules d build)) u [] _ [] s in
-        let q : saying (chain (judge_rules d build)) (cond (allows_test d build) 1 0 ∷ []) ≡ result (cond (allows_test d build) 1 0 ∷ []) = rw p in
+        let q : saying (chain (judge_rules d build)) (cond (allows_test d build) 1 0 ∷ []) ≡ result_of (cond (allows_test d build) 1 0 ∷ []) = rw p in
         (all_passed.0 p, ap (λ (t : Said). get_or t.values 0 0) (s ∙ q))
 
     is_one : (b : Bool) → ◌≡◌ {A = ℕ} (cond b 1 0) 1 → b ≡ true

@@ -7,7 +7,7 @@ use Prim.Native.Nat.{ℕ}
 use Rattle.lists.specs.Upto.{sum_to, last_to}
 use Rattle.lists.specs.First.{first}
 use Rattle.refusal.specs.Rules.{refusal, chain}
-use Rattle.refusal.specs.Said.{refused, result, saying}
+use Rattle.refusal.specs.Said.{refused, result_of, saying}
 use Rattle.diagram.specs.Lent.{first_edge, step, walk}
 use Rattle.diagram.specs.Rules.{bad_layer, permits, owner, bad_target, option_rules, node_rules, target_rules, check_rules}
 use Rattle.diagram.proofs.Witness.{sample}
@@ -15,6 +15,6 @@ use Rattle.judge.specs.Build.{build_rules, judge_rules}
 use Rattle.judge.specs.Promise.{allows_test}
 
 pub builds : map (λ (b : List ℕ). saying (chain (judge_rules sample b)) (cond (allows_test sample b) 1 0 ∷ [])) ((0 ∷ 1 ∷ []) ∷ (1 ∷ 1 ∷ []) ∷ (0 ∷ []) ∷ (0 ∷ 2 ∷ []) ∷ [])
-    ≡ result (1 ∷ []) ∷ result (0 ∷ []) ∷ refused (refusal 8 0) ∷ refused (refusal 9 1) ∷ []
+    ≡ result_of (1 ∷ []) ∷ result_of (0 ∷ []) ∷ refused (refusal 8 0) ∷ refused (refusal 9 1) ∷ []
 unfolding sum_to last_to first chain first_edge step walk bad_layer permits owner bad_target option_rules node_rules target_rules check_rules build_rules judge_rules
 builds = refl

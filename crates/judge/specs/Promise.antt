@@ -2,7 +2,7 @@
 use Rattle.std.specs.Prelude.{◌≡◌, refl, Bool, cond, List, [], ◌∷◌, ℕ, eqb}
 use Rattle.std.proofs.Common.{sym, ◌∙◌, ap}
 use Rattle.refusal.specs.Rules.{Rule, chain}
-use Rattle.refusal.specs.Said.{Said, refused, result, saying}
+use Rattle.refusal.specs.Said.{Said, refused, result_of, saying}
 use Rattle.refusal.proofs.SaidLaws.{refused_one}
 use Rattle.diagram.specs.Lent.{Lent, chosen, end}
 use Rattle.judge.specs.Build.{judge_rules}
@@ -12,8 +12,8 @@ use Rattle.judge.specs.declared.JudgeAnswer.{JudgeAnswer}
 
 -- the number and the values of each case
 abbrev pub judge_said : Judged → Said
-judge_said Allowed = result (1 ∷ [])
-judge_said NotAllowed = result (0 ∷ [])
+judge_said Allowed = result_of (1 ∷ [])
+judge_said NotAllowed = result_of (0 ∷ [])
 judge_said (Refused r) = refused r
 
 -- the test of `Allows`: the walk of the build ends at T

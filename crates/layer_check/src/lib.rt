@@ -1,5 +1,6 @@
 // The layers of a lent diagram: which node's is the first bad one, number 4. Assumes nothing.
 #![tactic(auto)]
+
 ghost use Rattle.std.specs.Prelude.{◌≡◌, [], ℕ, ◌+◌, ◌-◌, ◌≤◌, ◌<◌, min, length};
 ghost use Rattle.lists.specs.Upto.{count_to};
 ghost use Rattle.lists.specs.First.{first};

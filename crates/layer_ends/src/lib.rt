@@ -1,6 +1,7 @@
 // The layers of a diagram one after the other: each has its nodes, and their edges, in one stretch. For lists that are none of a
 // diagram the answers are stated too. Assumes nothing.
 #![tactic(auto)]
+
 ghost use Rattle.std.specs.Prelude.{◌≡◌, ◌≤◌, length};
 ghost use Rattle.layer_ends.specs.Layers.{past_eights, layer_end, layer_edges};
 

@@ -1,6 +1,7 @@
 // Where the edges of a layer may lead, as one range of references: nodes stand in the list in the order of their layers. For lists
 // that are none of a diagram the answer is stated too. Assumes nothing.
 #![tactic(auto)]
+
 ghost use Rattle.std.specs.Prelude.{◌≡◌, cond, ◌+◌, length, eqb};
 ghost use Rattle.layer_ranges.specs.Ranges.{cut, range_by};
 

@@ -1,5 +1,6 @@
 // Number 16: the limits of clause text, and of a lent word list. Assumes nothing.
 #![tactic(auto)]
+
 ghost use Rattle.std.specs.Prelude.{◌≡◌};
 ghost use Rattle.cnf.specs.Lent.{too_many};
 

@@ -3,7 +3,7 @@
 #![tactic(auto)]
 
 // Where a search ended: at an index, or with nothing found.
-#[derive(Drop)]
+#[derive(Clone, Copy)]
 pub enum Found {
     Nothing,
     At(usize),

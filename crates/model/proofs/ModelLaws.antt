@@ -13,7 +13,7 @@ use Rattle.lists.specs.Buffer.{over}
 use Rattle.lists.proofs.FirstLaws.{Tests, tests_one}
 use Rattle.lists.proofs.BufferLaws.{over_parts}
 use Rattle.refusal.specs.Rules.{Rule, chain}
-use Rattle.refusal.specs.Said.{Said, result}
+use Rattle.refusal.specs.Said.{Said, result_of}
 use Rattle.refusal.specs.Table.{room_row, ExactlyWhen}
 use Rattle.refusal.specs.declared.Refusal.{Refusal}
 use Rattle.refusal.specs.declared.Verdict.TheVariants.{Passed}
@@ -137,7 +137,7 @@ module _ (d : Lent) (m : List ℤ) where
       built_exactly n =
           let r = tells.told_result (Built n) _ _ refl in (
             (λ q. let p = r.0 q in let w = (all_passed (length before)).0 p.0 in (w.0, w.1, ap (λ (s : Said). get_or s.values 0 0) p.1)),
-            (λ w. r.1 ((all_passed (length before)).1 (w.0, w.1), ap (λ (k : ℕ). result (k ∷ [])) w.2)),
+            (λ w. r.1 ((all_passed (length before)).1 (w.0, w.1), ap (λ (k : ℕ). result_of (k ∷ [])) w.2)),
           )
 
       -- the build is exactly the one that the model says, and what lies past it is kept

@@ -3,7 +3,7 @@ use Rattle.std.specs.Prelude.{◌≡◌, List, [], ◌∷◌, ℕ, ℤ, length, 
 use Rattle.std.proofs.Common.{ap}
 use Rattle.lists.specs.Buffer.{over}
 use Rattle.refusal.specs.Rules.{Rule}
-use Rattle.refusal.specs.Said.{Said, refused, result}
+use Rattle.refusal.specs.Said.{Said, refused, result_of}
 use Rattle.refusal.specs.Answered.{AnsweredBy, answered_once}
 use Rattle.refusal.proofs.SaidLaws.{refused_one}
 use Rattle.diagram.specs.Lent.{Lent, options}
@@ -15,7 +15,7 @@ use Rattle.model.specs.declared.ModelAnswer.{ModelAnswer}
 
 -- the number and the values of each case
 abbrev pub model_said : ModelRead → Said
-model_said (Built n) = result (n ∷ [])
+model_said (Built n) = result_of (n ∷ [])
 model_said (Refused r) = refused r
 
 -- the answer is the first refusal of the rules that is due, and the list is kept; or else the build stands at the list's

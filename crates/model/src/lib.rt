@@ -3,13 +3,13 @@
 #![tactic(auto)]
 use refusal::Refusal;
 
-#[derive(Drop)]
+#[derive(Clone, Copy)]
 pub enum ModelRead {
     Built(usize),
     Refused(Refusal),
 }
 
-#[derive(Drop)]
+#[derive(Clone, Copy)]
 pub struct ModelAnswer {
     pub outcome: ModelRead,
 }

@@ -6,7 +6,7 @@ use numbers::{entry, sum, unlike};
 use show::{end_case, group};
 
 // A refusal's number (0 is none) and place, or how many values were written; and the two numbers that were lent.
-#[derive(Drop)]
+#[derive(Clone, Copy)]
 struct Built {
     number: usize,
     place: usize,

@@ -1,5 +1,6 @@
 // The mark of one variable, in a list of marks, the first variable's first. Assumes nothing.
 #![tactic(auto)]
+
 ghost use Rattle.std.specs.Prelude.{◌≡◌};
 ghost use Rattle.naming.specs.Marks.{has_mark, with_mark};
 

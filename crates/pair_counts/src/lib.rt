@@ -1,5 +1,6 @@
 // How many pairs the values of an option have. Assumes nothing.
 #![tactic(auto)]
+
 ghost use Rattle.std.specs.Prelude.{◌≡◌};
 ghost use Rattle.clauses.specs.Clauses.{pair_count};
 

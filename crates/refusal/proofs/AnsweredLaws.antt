@@ -4,7 +4,7 @@ use mathlib.Core.Logic.{◌↔◌}
 use mathlib.Core.List.{List, ◌∷◌, ◌++◌}
 use Prim.Native.Nat.{ℕ}
 use Rattle.refusal.specs.Rules.{Rule, chain}
-use Rattle.refusal.specs.Said.{Said, refused, result, saying, leaving}
+use Rattle.refusal.specs.Said.{Said, refused, result_of, saying, leaving}
 use Rattle.refusal.specs.Answered.{AnsweredBy}
 use Rattle.refusal.specs.Table.{Row, ExactlyWhen}
 use Rattle.refusal.specs.declared.Refusal.{Refusal}
@@ -21,7 +21,7 @@ module _ {A B : Type 0} (said : A → Said) (values : List ℕ) (written before 
   pub by_refusal : {rules : List Rule} {r : Refusal} {a : A} → said a ≡ refused r → chain rules ≡ Refused r → AnsweredBy said rules values written before a before
   by_refusal e q = record { says = rw q e; buffer = rw q }
 
-  pub by_result : {rules : List Rule} {a : A} {after : B} → said a ≡ result values → chain rules ≡ Passed → after ≡ written → AnsweredBy said rules values written before a after
+  pub by_result : {rules : List Rule} {a : A} {after : B} → said a ≡ result_of values → chain rules ≡ Passed → after ≡ written → AnsweredBy said rules values written before a after
   by_result e q b = record { says = rw q e; buffer = rw q b }
 
   -- the first rules refuse; or they pass, and the later ones decide
@@ -45,7 +45,7 @@ pub record Told {A B : Type 0} (said : A → Said) (no : Refusal → A) (rules :
   -- a refusal keeps the buffer
   pub told_keeps : (r : Refusal) → answer ≡ no r → after ≡ before
   -- an answer that says values is given exactly when the rules pass and these are the result's
-  pub told_result : (given : A) (u : ℕ) (us : List ℕ) → said given ≡ result (u ∷ us) → (answer ≡ given) ↔ ((chain rules ≡ Passed) × (said given ≡ result values))
+  pub told_result : (given : A) (u : ℕ) (us : List ℕ) → said given ≡ result_of (u ∷ us) → (answer ≡ given) ↔ ((chain rules ≡ Passed) × (said given ≡ result_of values))
   -- where they pass, the buffer holds what is written
   pub told_leaves : chain rules ≡ Passed → after ≡ written
 

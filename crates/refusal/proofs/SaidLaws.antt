@@ -6,7 +6,7 @@ use Prim.Native.Nat.{ℕ}
 use native.Mathlib.Omega.{arith}
 use lib.ListN.{length}
 use Rattle.refusal.specs.Rules.{refusal}
-use Rattle.refusal.specs.Said.{Said, refused, result, saying}
+use Rattle.refusal.specs.Said.{Said, refused, result_of, saying}
 use Rattle.refusal.specs.declared.Refusal.{Refusal}
 use Rattle.refusal.specs.declared.Verdict.{Verdict}
 use Rattle.refusal.specs.declared.Verdict.TheVariants.{Passed, Refused}
@@ -19,14 +19,14 @@ pub refused_one : (r s : Refusal) → refused r ≡ refused s → r ≡ s
 refused_one r s e = refusals r.number r.place s.number s.place (ap (λ (t : Said). t.number) e) (ap (λ (t : Said). t.place) e)
 
 -- a refusal says no values, a result some
-pub refused_or_result : (r : Refusal) (v : ℕ) (vs : List ℕ) → refused r ≡ result (v ∷ vs) → ⊥
+pub refused_or_result : (r : Refusal) (v : ℕ) (vs : List ℕ) → refused r ≡ result_of (v ∷ vs) → ⊥
 refused_or_result r v vs e = omega (arith, ap (λ (t : Said). length t.values) e)
 
 said_refused : (w : Verdict) (r : Refusal) (v : ℕ) (vs : List ℕ) → refused r ≡ saying w (v ∷ vs) → w ≡ Refused r
 said_refused Passed r v vs e = absurd (refused_or_result r v vs e)
 said_refused (Refused s) r v vs e = ap Refused (sym (refused_one r s e))
 
-pub said_passed : (w : Verdict) (u : ℕ) (us : List ℕ) (v : ℕ) (vs : List ℕ) → result (u ∷ us) ≡ saying w (v ∷ vs) → w ≡ Passed
+pub said_passed : (w : Verdict) (u : ℕ) (us : List ℕ) (v : ℕ) (vs : List ℕ) → result_of (u ∷ us) ≡ saying w (v ∷ vs) → w ≡ Passed
 said_passed Passed u us v vs e = refl
 said_passed (Refused r) u us v vs e = absurd (refused_or_result r u us (sym e))
 

@@ -14,12 +14,12 @@ pub record Said : Type 0 where
 abbrev pub refused : Refusal → Said
 refused r = record { number = r.number; place = r.place; values = [] }
 
-abbrev pub result : List ℕ → Said
-result vs = record { number = 0; place = 0; values = vs }
+abbrev pub result_of : List ℕ → Said
+result_of vs = record { number = 0; place = 0; values = vs }
 
 -- a verdict's refusal, or the result where it passed
 abbrev pub saying : Verdict → List ℕ → Said
-saying Passed vs = result vs
+saying Passed vs = result_of vs
 saying (Refused r) vs = refused r
 
 -- what a lent buffer holds afterwards: what is written where the verdict passed, and otherwise what it held before

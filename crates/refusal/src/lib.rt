@@ -5,14 +5,14 @@ ghost use Rattle.refusal.specs.Rules.{rule, chain};
 
 use lists::Found;
 
-#[derive(Drop)]
+#[derive(Clone, Copy)]
 pub struct Refusal {
     pub number: u32,
     pub place: usize,
 }
 
 // What a list of rules says: nothing against, or the first refusal that is due.
-#[derive(Drop)]
+#[derive(Clone, Copy)]
 pub enum Verdict {
     Passed,
     Refused(Refusal),

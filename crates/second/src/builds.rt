@@ -5,7 +5,7 @@ use crate::checker::Due;
 use numbers::{difference, entry, put_word, sum};
 
 // What the judge must answer: a refusal's number (0 is none) and place, and 1 where the build is allowed.
-#[derive(Drop)]
+#[derive(Clone, Copy)]
 pub struct Verdict {
     pub number: usize,
     pub place: usize,

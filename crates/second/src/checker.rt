@@ -3,7 +3,7 @@
 use numbers::{difference, entry, sum};
 
 // A refusal's number and place; number 0 is none.
-#[derive(Drop)]
+#[derive(Clone, Copy)]
 pub struct Due {
     pub number: usize,
     pub place: usize,

@@ -2,6 +2,7 @@
 // held against words that are there. Of the library it uses one law on signed words, in its proofs, and no code and no
 // definition. Its functions are proved to be safe and to end, and promise no more. Assumes nothing.
 #![tactic(auto)]
+
 use numbers::{difference, entry, product, quotient, remainder, sum, unlike, unlike_word};
 use second::checker;
 

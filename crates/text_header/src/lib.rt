@@ -8,7 +8,7 @@ use dimacs::HEAD;
 
 // Where the comment lines end, and whether the line there has the header's form; where it has, what it says (cut at
 // 10000000000) and where the tokens begin, and else 0.
-#[derive(Drop)]
+#[derive(Clone, Copy)]
 pub struct Header {
     pub start: usize,
     pub formed: bool,

@@ -15,7 +15,7 @@ use text_tokens::Pass;
 
 // ---- the second pass: the words of tokens that are known to be good
 
-#[derive(Drop)]
+#[derive(Clone, Copy)]
 struct Word {
     value: i32,
     end: usize,

@@ -6,7 +6,7 @@ use numbers::{sum, unlike, unlike_word};
 use show::{end_case, group, read_open};
 
 // A refusal's number, 0 for none, and place; or how many words were read.
-#[derive(Drop)]
+#[derive(Clone, Copy)]
 struct Answer {
     number: usize,
     place: usize,

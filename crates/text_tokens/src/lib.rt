@@ -10,7 +10,7 @@ use token::Judged;
 
 // What the tokens are: good, and then how many words and clauses they are and whether the last clause is closed; or not, and
 // then the refusal that is due first. What is not said is 0.
-#[derive(Drop)]
+#[derive(Clone, Copy)]
 pub struct Pass {
     pub good: bool,
     pub refusal: Refusal,

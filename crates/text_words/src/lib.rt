@@ -39,7 +39,7 @@ fn is_negative(word: i32) -> u32
 // ---- the pass
 
 // How many zeros a word list has, how many literals beyond V, and how many bytes its words have as text.
-#[derive(Drop)]
+#[derive(Clone, Copy)]
 struct Survey {
     zeros: u32,
     beyond: u32,
@@ -73,7 +73,7 @@ fn survey_words(words: &[i32], variables: u32) -> Survey
 
 // What a word list is: good, and then how many clauses it has and how many bytes its text has; or not, and then the refusal
 // that is due first. What is not said is 0.
-#[derive(Drop)]
+#[derive(Clone, Copy)]
 pub struct Measure {
     pub good: bool,
     pub refusal: Refusal,

@@ -6,7 +6,7 @@ ghost use Rattle.token.specs.Judged.{token_judged, read_judged};
 use decimal::Reading;
 
 // What a token is; where it is a word, the place past its last byte.
-#[derive(Drop)]
+#[derive(Clone, Copy)]
 pub enum Judged {
     Misformed,
     Beyond,
