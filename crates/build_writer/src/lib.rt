@@ -1,6 +1,7 @@
 // A build that was read goes out into a lent list, where nothing is refused: number 7, what is refused of the build, and the
 // answer. Assumes nothing.
 #![tactic(auto)]
+
 ghost use Rattle.std.specs.Prelude.{◌≡◌};
 ghost use Rattle.model.specs.Steps.{write_answer, write_after};
 

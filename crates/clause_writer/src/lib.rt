@@ -1,6 +1,7 @@
 // Writes literals in a row, and the three clauses of one literal, as words, at the front of a lent part of a buffer. Each of
 // these is written whole where it fits, and otherwise not at all. Assumes nothing.
 #![tactic(auto)]
+
 ghost use Rattle.std.specs.Prelude.{ℕ, ◌+◌};
 ghost use Rattle.cnf.specs.Clause.{words};
 ghost use Rattle.clauses.specs.Clauses.{one_of, units};

@@ -101,9 +101,9 @@ one01 : OneSetting s3 12 (clauses edition1 s3) build01
 unfolding sum_to first_edge first_value first_helper
 one01 = meaning3.allowed (0 ∷ 1 ∷ []) fits01 allows01
 
-setting_of : (σ : Setting) → SettingFor s3 (clauses edition1 s3) build01 σ → up_to 12 (λ k. σ (suc k) ∷ []) ≡ setting01
+setting_of_lem : (σ : Setting) → SettingFor s3 (clauses edition1 s3) build01 σ → up_to 12 (λ k. σ (suc k) ∷ []) ≡ setting01
 unfolding sum_to first_edge first_value first_helper
-setting_of σ p = list_same (λ k. σ (suc k) ∷ []) (λ k. own (suc k) ∷ []) 12 (λ k h. ap (λ (b : Bool). b ∷ []) (same (suc k) (omega arith) (omega arith))) ∙ own_is
+setting_of_lem σ p = list_same (λ k. σ (suc k) ∷ []) (λ k. own (suc k) ∷ []) 12 (λ k h. ap (λ (b : Bool). b ∷ []) (same (suc k) (omega arith) (omega arith))) ∙ own_is
   where
     same : SameTo 12 σ own
     same = setting_own edition1 edition1_one s3 ok3 (clauses edition1 s3) has (arrives s3) (taken s3) (clauses_meant edition1_one ok3) build01 fits01.in_domain ((allows_exactly s3 ok3 build01 fits01.in_domain).1 allows01) σ p

@@ -1,5 +1,6 @@
 // What each function that is lent a diagram answered, put into a lent answer of the C interface. Assumes nothing.
 #![tactic(auto)]
+
 ghost use Rattle.entries.specs.Answer.{Answered, silent};
 ghost use Rattle.cnf.specs.Encoded.{encoded_said};
 ghost use Rattle.diagram.specs.Promise.{check_said};

@@ -1,5 +1,6 @@
 // What the writer and the reader of clause text answered, put into a lent answer of the C interface. Assumes nothing.
 #![tactic(auto)]
+
 ghost use Rattle.entries.specs.Answer.{Answered};
 ghost use Rattle.dimacs.specs.Write.{written_said};
 ghost use Rattle.dimacs.specs.Read.{read_said};

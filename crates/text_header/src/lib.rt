@@ -1,5 +1,6 @@
 // The front of a clause text: where its comment lines end, and what the header's line says. Assumes nothing.
 #![tactic(auto)]
+
 ghost use Rattle.std.specs.Prelude.{◌≡◌, false};
 ghost use Rattle.dimacs.specs.Header.{comments};
 ghost use Rattle.text_header.specs.Header.{no_header, header_of};

@@ -1,5 +1,6 @@
 // The check of a lent word list that its caller has counted: numbers 16, 14 and 15. Assumes nothing.
 #![tactic(auto)]
+
 ghost use Rattle.std.specs.Prelude.{◌≡◌, not, cond, length};
 ghost use Rattle.lists.specs.First.{found_if, first};
 ghost use Rattle.lists.specs.Signed.{beyond};
