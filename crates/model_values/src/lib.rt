@@ -1,6 +1,7 @@
 // Each option's value, from the marks that a solver's model leaves: number 12. It speaks of the domains and of the marks, and
 // knows no diagram. Assumes nothing.
 #![tactic(auto)]
+
 ghost use Rattle.std.specs.Prelude.{◌≡◌, [], ℕ, ◌+◌, ◌≤◌, length};
 ghost use Rattle.lists.specs.First.{sole};
 ghost use Rattle.lists.specs.Buffer.{over};

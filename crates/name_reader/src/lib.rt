@@ -1,6 +1,7 @@
 // What the literals of a solver's model say of the value variables: numbers 10 and 11, and where they pass a mark for each
 // variable. It speaks of a list of literals, a last variable and a number of value variables. Assumes nothing.
 #![tactic(auto)]
+
 ghost use Rattle.std.specs.Prelude.{◌≡◌, ◌+◌, ◌≤◌, ◌<◌, length, replicate};
 ghost use Rattle.lists.specs.Upto.{count_to};
 ghost use Rattle.lists.specs.First.{first};

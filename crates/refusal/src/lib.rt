@@ -1,5 +1,6 @@
 // Refusals: a number and a place, the numbers by name, and the verdict of one rule. Assumes nothing.
 #![tactic(auto)]
+
 ghost use Rattle.std.specs.Prelude.{◌≡◌, [], ◌∷◌};
 ghost use Rattle.refusal.specs.Rules.{rule, chain};
 

@@ -1,5 +1,6 @@
 // The shape of a lent diagram: numbers 1 to 4, which are about its domains and its layers. Assumes nothing.
 #![tactic(auto)]
+
 ghost use Rattle.std.specs.Prelude.{◌≡◌, []};
 ghost use Rattle.refusal.specs.Rules.{chain};
 ghost use Rattle.diagram.specs.Lent.{lent};

@@ -1,6 +1,7 @@
 // How long a diagram's list of clauses is, by the formulas: its words, its clauses and V, before a word is written. Assumes
 // nothing.
 #![tactic(auto)]
+
 ghost use Rattle.std.specs.Prelude.{◌≡◌, length};
 ghost use Rattle.sizes.specs.Tallied.{cut, pair_sum, tallied};
 

@@ -1,6 +1,5 @@
 -- `option_check::first_bad_domain` meets its contract: none below i is bad. Assumes nothing.
 use mathlib.Core.Path.{sym, ◌∙◌}
-use Prim.Native.Nat.{◌-◌}
 use native.Mathlib.Omega.{arith}
 use borrow.Author.Rules.{rules}
 use Rattle.lists.proofs.FirstLaws.{start, pass, stop, done}

@@ -1,5 +1,5 @@
 -- `stray::search_stray` meets its contract: none below j strays. Assumes nothing.
-use Rattle.std.proofs.Common.{◌-◌, sym, ◌∙◌, arith, rules}
+use Rattle.std.proofs.Common.{sym, ◌∙◌, arith, rules}
 use Rattle.lists.proofs.FirstLaws.{start, pass, stop, done}
 use Rattle.stray.proofs.search_stray.Goals as goal
 

@@ -1,5 +1,5 @@
 -- `stray::span_of` meets its contract: the targets below j keep to the span. Assumes nothing.
-use Rattle.std.proofs.Common.{◌≡◌, ◌-◌, length, arith, rules}
+use Rattle.std.proofs.Common.{◌≡◌, length, arith, rules}
 use Rattle.stray.proofs.SpanLaws.{spans_start, spans_more}
 use Rattle.stray.proofs.span_of.Goals as goal
 
