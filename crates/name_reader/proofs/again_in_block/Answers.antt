@@ -16,4 +16,4 @@ past c =
     noted_past s.args.values s.args.literals.now s.args.from s.args.end s.requires.values_bound.2 s.requires.values_bound.3 (sym c.count_values.ensures ∙ c.if-count_values-eq0.true) s.requires.noted_to
 
 pub returns-then-count_values-eq0 : goal.returns-then-count_values-eq0
-returns-then-count_values-eq0 c = record { value = sym (past c.before).0; marks = λ e. (past c.before).1 }
+returns-then-count_values-eq0 c = record { value = sym (past c).0; marks = λ e. (past c).1 }

@@ -12,24 +12,24 @@ loop-k-init c = (omega arith, (start _, c.requires.marks))
 
 pub again_in_block-requires : goal.again_in_block-requires
 again_in_block-requires c =
-    let e = c.before.before in
+    let e = c.before in
     let l = e.before.before in
     let s = l.requires in
-    record { values_bound = (s.0.0, s.0.1, omega (arith, e.block_end-end.ensures.0), e.block_end-end.ensures.1, e.block_end-end.ensures.2); noted_to = l.loop-k.invariant.1 }
+    record { values_bound = (s.values_bound.0, s.values_bound.1, omega (arith, e.block_end-end.ensures.0), e.block_end-end.ensures.1, e.block_end-end.ensures.2); noted_to = l.loop-k.invariant.1 }
 
 pub returns-in-At : goal.returns-in-At
 returns-in-At c =
-    let f = c.before.before in
+    let f = c.before in
     let e = f.before.before in
     let w = found_least _ _ _ (sym f.again_in_block.ensures.value ∙ c.in-At.is) in
     record { value = sym (least_found _ _ _ (omega (arith, w.0, e.block_end-end.ensures.1)) w.1 w.2); marks_2 = λ q. absurd (found_one _ q refl) }
 
 pub loop-k-smaller : goal.loop-k-smaller
-loop-k-smaller c = let e = c.before.before.before.before in omega (arith, e.block_end-end.ensures.0, e.block_end-end.ensures.1)
+loop-k-smaller c = let e = c.before.before.before in omega (arith, e.block_end-end.ensures.0, e.block_end-end.ensures.1)
 
 pub loop-k-preserved : goal.loop-k-preserved
 loop-k-preserved c =
-    let f = c.before.before in
+    let f = c.before in
     let e = f.before.before in
     let q = c.in_default.is in
     (e.block_end-end.ensures.1, (sym f.again_in_block.ensures.value ∙ q, f.again_in_block.ensures.marks q))

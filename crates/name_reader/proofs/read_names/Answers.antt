@@ -59,13 +59,13 @@ told c = c.before.before
 abbrev first_of : At-After-verdict_of-twice → At-After-at_most-top
 first_of c = c.before.before.before
 
-said_11 : (c : At-After-verdict_of-twice) → let v = (told (first_of c)).before.before in c.verdict_of-twice.result ≡ chain (rule 11 (first (again (D v) (m v)) (length (m v))) ∷ [])
+said_11 : (c : At-After-verdict_of-twice) → let v = (told (first_of c)).before in c.verdict_of-twice.result ≡ chain (rule 11 (first (again (D v) (m v)) (length (m v))) ∷ [])
 said_11 c = rw (← (first_of c).at_most-top.ensures, ← c.first_again.ensures.value) c.verdict_of-twice.ensures
 
-marks_are : (c : At-In_default-twice) → let v = (told (first_of c.before)).before.before in c.first_again.new.marks.0 ≡ marks_of (D v) (m v)
+marks_are : (c : At-In_default-twice) → let v = (told (first_of c.before)).before in c.first_again.new.marks ≡ marks_of (D v) (m v)
 marks_are c =
     let w = c.before in
-    let v = (told (first_of w)).before.before in
+    let v = (told (first_of w)).before in
     rw (← (first_of w).at_most-top.ensures) (marks_whole _ (m v) (w.first_again.ensures.marks_2 (not_due 11 _ [] (sym w.verdict_of-twice.ensures ∙ c.in_default-twice.is)).0))
 
 pub returns-in-Refused : goal.returns-in-Refused
@@ -75,7 +75,7 @@ pub first_again-requires : goal.first_again-requires
 first_again-requires c = let a = c.before in let s : a.at_most-top.result ≤ 2048 = omega (arith, a.at_most-top.ensures) in record { values_bound = (s, each_names (told a)); marks = rw a.no_marks-marks.ensures (no_marks _ _ s) }
 
 pub returns-in-Refused-twice : goal.returns-in-Refused-twice
-returns-in-Refused-twice c = let t = c.before in let w = t.before in let o = told (first_of w) in refused_11 _ _ (m o.before.before) (said_10 o.before.before) o.enum-told2.given.1 (said_11 w) t.in-Refused-twice.is c.no_marks-in-Refused-twice.ensures
+returns-in-Refused-twice c = let t = c.before in let w = t.before in let o = told (first_of w) in refused_11 _ _ (m o.before) (said_10 o.before) o.in_default.is (said_11 w) t.in-Refused-twice.is c.no_marks-in-Refused-twice.ensures
 
 pub returns : goal.returns
-returns c = let w = c.before in let o = told (first_of w) in none_refused _ _ (m o.before.before) (said_10 o.before.before) o.enum-told2.given.1 (said_11 w) c.in_default-twice.is (marks_are c)
+returns c = let w = c.before in let o = told (first_of w) in none_refused _ _ (m o.before) (said_10 o.before) o.in_default.is (said_11 w) c.in_default-twice.is (marks_are c)

@@ -52,10 +52,13 @@ some c = let s = c.before.before in s.requires.values_bound.1 (k c) (omega (arit
 named : (c : At-After-variable_of) → let l = c.before.before.before in c.variable_of.result ≡ variable (m l) (k l)
 named c = c.variable_of.ensures ∙ ap nat_abs (back c.before.before)
 
+both : {A B : Type 0} → A → B → A × B
+both a b = (a, b)
+
 -- what a turn finds, and what it leaves
 noting : (c : At-After-note) → let l = c.before.before.before.before.before in let D = l.args.values in let ms = l.loop-k.marks in
     (c.note.result ≡ is_marked D (variable (m l) (k l)) ms) × (c.note.new.marks ≡ noted D (variable (m l) (k l)) (mark_of (literal (m l) (k l))) ms)
-noting c = rw (named c.before.before, c.mark_of.ensures, back c.before.before.before.before, le-leb 1 (variable (m c.before.before.before.before.before) (k c.before.before.before.before.before)) (some c.before.before.before.before.before)) at c.note.ensures
+noting c = rw (named c.before.before, c.mark_of.ensures, back c.before.before.before.before, le-leb 1 (variable (m c.before.before.before.before.before) (k c.before.before.before.before.before)) (some c.before.before.before.before.before)) at (both c.note.ensures.value c.note.ensures.marks_after)
 
 marked : (c : At-After-note) → let l = c.before.before.before.before.before in c.note.result ≡ again l.args.values (m l) (k l)
 marked c = let l = c.before.before.before.before.before in (noting c).0 ∙ marked_again l.loop-k.invariant.2 l.requires.values_bound.0 (some l)
@@ -70,10 +73,10 @@ pub loop-k-init : goal.loop-k-init
 loop-k-init c = (c.requires.values_bound.2, c.requires.noted_to.0, c.requires.noted_to.1)
 
 pub returns-then-note : goal.returns-then-note
-returns-then-note c = let l = c.before.before.before.before.before.before.before in record { value = stop _ _ _ l.loop-k.invariant.1 (sym (marked c.before.before) ∙ c.if-note.true) l.loop-k-test.true; marks = λ e. absurd (found_one _ e refl) }
+returns-then-note c = let l = c.before.before.before.before.before.before in record { value = stop _ _ _ l.loop-k.invariant.1 (sym (marked c.before) ∙ c.if-note.true) l.loop-k-test.true; marks = λ e. absurd (found_one _ e refl) }
 
 pub loop-k-preserved : goal.loop-k-preserved
-loop-k-preserved c = (search rules, pass _ _ c.loop-k.invariant.1 (sym (marked c.before.before) ∙ c.if-note.false), turn c.before)
+loop-k-preserved c = (search rules, pass _ _ c.loop-k.invariant.1 (sym (marked c.before) ∙ c.if-note.false), turn c)
 
 pub returns : goal.returns
 returns c = let l = c.loop-k in let q : l.k ≡ c.args.end = omega arith in record { value = done _ _ _ l.invariant.1 l.invariant.0 c.loop-k-test.false; marks = λ e. rw (← q) l.invariant.2 }
