@@ -1,5 +1,6 @@
 // Judging a diagram file: numbers 20 and 21, line by line from the first. Assumes nothing.
 #![tactic(auto)]
+
 ghost use Rattle.std.specs.Prelude.{◌≡◌, true, [], ◌∷◌, ◌+◌};
 ghost use Rattle.refusal.specs.Rules.{refusal, chain};
 ghost use Rattle.diagram_file.specs.Lines.{one_line, value_of};

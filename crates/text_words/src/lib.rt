@@ -1,5 +1,6 @@
 // The first pass of writing clause text: a word list is checked, and its text measured. Assumes nothing.
 #![tactic(auto)]
+
 ghost use Rattle.std.specs.Prelude.{◌≡◌, cond, ◌≤◌, length};
 ghost use Rattle.lists.specs.Signed.{is_zero, is_negative};
 ghost use Rattle.refusal.specs.Rules.{refusal};

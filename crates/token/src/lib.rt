@@ -1,5 +1,6 @@
 // One token of a clause text, judged by the digits that stand at it. Assumes nothing.
 #![tactic(auto)]
+
 ghost use Rattle.std.specs.Prelude.{◌≡◌, ◌<◌, length, get_or};
 ghost use Rattle.token.specs.Judged.{token_judged, read_judged};
 
