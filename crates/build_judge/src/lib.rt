@@ -1,5 +1,6 @@
 // Judging a build: a library above the diagram's, which knows it by its promises only. Assumes nothing.
 #![tactic(auto)]
+
 ghost use Rattle.std.specs.Prelude.{◌≡◌, [], ◌≤◌, length};
 ghost use Rattle.diagram.specs.Lent.{lent, first_edge};
 ghost use Rattle.diagram.specs.Sound.{Shaped, Sound};

@@ -1,5 +1,6 @@
 // Numbers 1 to 5 of a lent diagram: the shape first, then the count of the targets. Assumes nothing.
 #![tactic(auto)]
+
 ghost use Rattle.std.specs.Prelude.{◌≡◌, []};
 ghost use Rattle.refusal.specs.Rules.{chain};
 ghost use Rattle.diagram.specs.Lent.{lent, edges};

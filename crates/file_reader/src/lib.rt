@@ -1,5 +1,6 @@
 // Reading a diagram file into three lent lists. Assumes nothing.
 #![tactic(auto)]
+
 ghost use Rattle.std.specs.Prelude.{◌≤◌, length};
 ghost use Rattle.diagram.specs.Lent.{lent};
 ghost use Rattle.diagram_file.specs.Lines.{line_at};

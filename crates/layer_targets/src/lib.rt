@@ -1,5 +1,6 @@
 // Numbers 1 to 6 of a lent diagram: those before the targets first, and then the targets layer by layer. Assumes nothing.
 #![tactic(auto)]
+
 ghost use Rattle.std.specs.Prelude.{◌≡◌, length};
 ghost use Rattle.lists.specs.First.{first};
 ghost use Rattle.refusal.specs.Rules.{chain};

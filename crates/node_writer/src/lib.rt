@@ -1,6 +1,7 @@
 // Writes a node's clauses as words at the front of a lent part of a buffer: whole where they fit, and otherwise not at all.
 // Assumes nothing.
 #![tactic(auto)]
+
 ghost use Rattle.std.specs.Prelude.{◌≤◌, length};
 ghost use Rattle.lists.specs.Buffer.{Wrote};
 ghost use Rattle.cnf.specs.Clause.{words};

@@ -1,6 +1,7 @@
 // Writes an option's clauses of edition 1 as words at the front of a lent part of a buffer: whole where they fit, and
 // otherwise not at all. The options before it have `before` values together. Assumes nothing.
 #![tactic(auto)]
+
 ghost use Rattle.std.specs.Prelude.{◌+◌, ◌≤◌, length};
 ghost use Rattle.lists.specs.Buffer.{Wrote};
 ghost use Rattle.cnf.specs.Clause.{words};

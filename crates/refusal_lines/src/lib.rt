@@ -1,5 +1,6 @@
 // A refusal's two lines, printed. Assumes nothing.
 #![tactic(auto)]
+
 ghost use Rattle.std.specs.Prelude.{◌≡◌, [], ◌+◌, ◌≤◌, length};
 ghost use Rattle.lists.specs.Buffer.{Wrote};
 ghost use Rattle.refusal.specs.declared.Verdict.TheVariants as verdict;

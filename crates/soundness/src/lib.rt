@@ -1,5 +1,6 @@
 // The check of a lent diagram: numbers 1 to 6, and the counts of a sound one. Assumes nothing.
 #![tactic(auto)]
+
 ghost use Rattle.std.specs.Prelude.{◌≡◌, [], ℕ, ◌≤◌, ◌<◌, length, get_or};
 ghost use Rattle.diagram.specs.Lent.{lent};
 ghost use Rattle.diagram.specs.Numbers.{values};

@@ -1,5 +1,6 @@
 // Clause text in: the words of a text, which fill a lent list. Assumes nothing.
 #![tactic(auto)]
+
 ghost use Rattle.std.specs.Prelude.{◌≡◌, false, ◌++◌, ◌+◌, ◌≤◌, ◌<◌, length, get_or, drop};
 ghost use Rattle.lists.specs.Buffer.{over};
 ghost use Rattle.refusal.specs.Rules.{refusal, chain};

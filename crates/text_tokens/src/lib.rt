@@ -1,5 +1,6 @@
 // The tokens of a clause text judged from the left, and counted: the first pass of reading. Assumes nothing.
 #![tactic(auto)]
+
 ghost use Rattle.std.specs.Prelude.{◌≡◌};
 ghost use Rattle.refusal.specs.Rules.{refusal};
 ghost use Rattle.dimacs.specs.Rules.{tokens_from};

@@ -1,5 +1,6 @@
 // Clause text out: a word list written as text, once it is checked and measured. Assumes nothing.
 #![tactic(auto)]
+
 ghost use Rattle.std.specs.Prelude.{◌≡◌, cond, ◌+◌, ◌≤◌, ◌<◌, length, set};
 ghost use Rattle.lists.specs.Signed.{is_negative};
 ghost use Rattle.lists.specs.Buffer.{Wrote};
