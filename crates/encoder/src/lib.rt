@@ -1,5 +1,6 @@
 // The encoder: a library above the diagram's, which writes a diagram's clauses as words into a lent buffer. Assumes nothing.
 #![tactic(auto)]
+
 ghost use Rattle.std.specs.Prelude.{◌≡◌, [], ◌∷◌, ◌+◌, ◌≤◌, length};
 ghost use Rattle.lists.specs.Upto.{up_to};
 ghost use Rattle.lists.specs.Buffer.{Wrote, Front};

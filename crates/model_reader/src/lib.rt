@@ -1,6 +1,7 @@
 // Reading a solver's model back as a build. Nothing is filled in: a model that does not give each option exactly one value
 // is refused. Assumes nothing.
 #![tactic(auto)]
+
 ghost use Rattle.std.specs.Prelude.{◌≡◌, not, [], ◌∷◌, length};
 ghost use Rattle.lists.specs.First.{found_if};
 ghost use Rattle.refusal.specs.Rules.{rule, and_then, chain};
