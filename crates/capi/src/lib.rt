@@ -1,5 +1,6 @@
 // The C interface: each function calls one of the libraries and puts what it says into the lent answer. Assumes nothing.
 #![tactic(auto)]
+
 ghost use Rattle.diagram.specs.Lent.{lent};
 ghost use Rattle.calls.specs.Promise.{CheckCall, JudgeCall, EncodeCall, ModelCall, WriteCall, ReadCall};
 

@@ -2,6 +2,7 @@
 // and the answer of a function that writes a list of clauses into a lent buffer, as types, definitions (specs/) and laws
 // (proofs/). Assumes nothing.
 #![tactic(auto)]
+
 use refusal::Refusal;
 
 // What a written list has: its words, its clauses, and V, the last variable.

@@ -26,7 +26,6 @@ use Rattle.encoding.specs.Promise.{encode_rules, EncodePromise}
 use Rattle.dimacs.specs.Text.{body, header_line, text_of}
 use Rattle.dimacs.specs.Write.{WritePromise}
 use Rattle.dimacs.specs.Read.{tally_read}
-use Rattle.dimacs.specs.declared.TextWritten.TheVariants as text
 use Rattle.dimacs.specs.declared.TextRead.TheVariants.{Read}
 use Rattle.dimacs.proofs.BodyLaws.{one_line_a_clause, text_bytes}
 use Rattle.dimacs.proofs.WriteLaws.{written_exactly as text-written, written_text}

@@ -8,7 +8,7 @@ use Rattle.cnf.specs.Clause.{Clause, words}
 use Rattle.cnf.specs.Encoded.{tally}
 use Rattle.cnf.specs.Words.{clauses_of, zeros, closed}
 use Rattle.diagram.specs.Lent.{Lent, lent, options, nodes, domain, layer}
-use Rattle.diagram.specs.Sound.{Within, Sound}
+use Rattle.diagram.specs.Sound.{Within}
 use Rattle.cnf.specs.declared.Tally.{Tally}
 use Rattle.cnf.specs.declared.Encoded.TheVariants.{Written}
 use Rattle.cnf.specs.declared.EncodeAnswer.{EncodeAnswer}

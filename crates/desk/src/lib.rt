@@ -1,6 +1,7 @@
 // What the program does, as definitions: what it refuses, what it prints, and what its answer says. The functions stand in
 // `refusal_lines`, `diagram_text` and `desk_run`. Assumes nothing.
 #![tactic(auto)]
+
 use refusal::Refusal;
 
 // What was printed: a clause text, or the two lines of a refusal; and how many bytes. Number 7 where the lent buffer is too

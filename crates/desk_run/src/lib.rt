@@ -1,5 +1,6 @@
 // The program's work as one function, from the bytes that it was given to the bytes that it prints. Assumes nothing.
 #![tactic(auto)]
+
 ghost use Rattle.desk.specs.Promise.{DeskPromise};
 
 use desk::DeskAnswer;

@@ -3,6 +3,7 @@
 // numbers 1 to 6, which builds it allows, what `check` promises. The code that checks is that of `shape`, `stray` and
 // `soundness`. Assumes nothing.
 #![tactic(auto)]
+
 ghost use Rattle.std.specs.Prelude.{◌≡◌};
 ghost use Rattle.diagram.specs.Numbers.{value_number, reference_number, edge_number, last_number};
 

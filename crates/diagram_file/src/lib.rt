@@ -1,6 +1,7 @@
 // The diagram file, as definitions: key=value lines, what is refused of them, and what reading them into three lent lists
 // answers. The functions stand in `file_lines`, `file_judge` and `file_reader`. Assumes nothing.
 #![tactic(auto)]
+
 use refusal::Refusal;
 
 #[derive(Clone, Copy)]

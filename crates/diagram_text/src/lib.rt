@@ -1,5 +1,6 @@
 // The clause text of a diagram, printed, or why it is refused. Assumes nothing.
 #![tactic(auto)]
+
 ghost use Rattle.std.specs.Prelude.{◌≡◌, length};
 ghost use Rattle.refusal.specs.Rules.{chain};
 ghost use Rattle.refusal.specs.declared.Verdict.TheVariants as verdict;

@@ -15,7 +15,7 @@ use Rattle.refusal.specs.Rules.{chain}
 use Rattle.refusal.specs.declared.Verdict.TheVariants.{Passed}
 use Rattle.refusal.proofs.RulesLaws.{passes}
 use Rattle.refusal.proofs.RoomLaws.{long_enough}
-use Rattle.decimal.specs.Digits.{digits, value}
+use Rattle.decimal.specs.Digits.{digits}
 use Rattle.decimal.proofs.DigitsLaws.{value_digits}
 use Rattle.cnf.specs.Lent.{WellWords}
 use Rattle.cnf.specs.Words.{zeros}

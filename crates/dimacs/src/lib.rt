@@ -1,6 +1,7 @@
 // Clause text: what it is, the answers of those who write and read it, and what the two promise (specs/), with laws (proofs/).
 // Definitions and theorems alone. Assumes nothing.
 #![tactic(auto)]
+
 use cnf::Tally;
 use refusal::Refusal;
 

@@ -1,5 +1,6 @@
 // The clause text of a diagram file, printed, or why it is refused. Assumes nothing.
 #![tactic(auto)]
+
 ghost use Rattle.std.specs.Prelude.{◌≡◌, length};
 ghost use Rattle.refusal.specs.Rules.{chain};
 ghost use Rattle.diagram_file.specs.File.{file_diagram};

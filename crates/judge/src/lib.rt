@@ -1,6 +1,7 @@
 // Judging a build: the answers of the one who judges it; what a build must be, and what is promised of it (specs/), with laws
 // (proofs/). Definitions and theorems alone. Assumes nothing.
 #![tactic(auto)]
+
 use refusal::Refusal;
 
 #[derive(Clone, Copy)]

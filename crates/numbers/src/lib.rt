@@ -1,5 +1,6 @@
 // Arithmetic and entries of lists that never fail: a result that cannot be had is 0. Assumes nothing.
 #![tactic(auto)]
+
 const LIMIT: usize = 4294967296;
 
 pub fn sum(a: usize, b: usize) -> usize {

@@ -1,5 +1,4 @@
 -- `build_check::first_bad_value` meets its contract: none below i is bad. Assumes nothing.
-use Prim.Native.Nat.{◌-◌}
 use native.Mathlib.Omega.{arith}
 use borrow.Author.Rules.{rules}
 use borrow.Author.Tests.{le-leb, lt-leb}

@@ -1,7 +1,7 @@
 -- `build_judge::first_edge` meets its contract: e is the first edge of node k. Assumes nothing.
 use mathlib.Core.Path.{◌≡◌, ◌∙◌, sym, ap}
 use mathlib.Core.List.{[]}
-use Prim.Native.Nat.{ℕ, ◌+◌, ◌<◌, ◌-◌}
+use Prim.Native.Nat.{ℕ, ◌+◌, ◌<◌}
 use native.Mathlib.Omega.{arith}
 use lib.ListN.{length}
 use Rattle.diagram.specs.Lent.{Lent, lent, layer, asked, width, first_edge}

@@ -1,5 +1,4 @@
 -- `build_writer::write_build` meets its contract: before turn i the first i values stand at the front. Assumes nothing.
-use Prim.Native.Nat.{◌-◌}
 use native.Mathlib.Omega.{arith}
 use borrow.Author.Rules.{rules}
 use Rattle.lists.proofs.UptoLaws.{list_whole}

@@ -1,5 +1,4 @@
 -- `byte_writer::put` meets its contract: before turn k the first k bytes are stored. Assumes nothing.
-use Prim.Native.Nat.{◌-◌}
 use native.Mathlib.Omega.{arith}
 use borrow.Author.Rules.{rules}
 use Rattle.lists.proofs.UptoLaws.{list_whole}

@@ -1,6 +1,6 @@
 -- `clause_writer::emit_literals` meets its contract: nothing, or, before turn j, the first j literals. Assumes nothing.
 use mathlib.Core.List.{List, [], ◌∷◌}
-use Prim.Native.Nat.{◌-◌, ◌+◌, ℕ}
+use Prim.Native.Nat.{◌+◌, ℕ}
 use native.Mathlib.Omega.{arith}
 use lib.IntN.{ℤ}
 use mathlib.Core.Path.{refl}

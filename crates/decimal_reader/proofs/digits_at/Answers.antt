@@ -1,6 +1,5 @@
 -- `decimal_reader::digits_at` meets its contract: before each turn the digits are read up to i. Assumes nothing.
 use mathlib.Core.Path.{sym, ◌∙◌}
-use Prim.Native.Nat.{◌-◌}
 use Rattle.decimal.proofs.DigitsLaws.{digit_range}
 use Rattle.decimal.proofs.RunLaws.{run_stop, run_end}
 use Rattle.decimal_reader.proofs.ReadLaws.{came_none, came_more, came_all}

@@ -1,7 +1,7 @@
 -- `edge_counts::edge_count` meets its contract: e is the number of edges of the nodes before w. Assumes nothing.
 use mathlib.Core.Path.{◌≡◌, sym}
 use mathlib.Core.List.{[]}
-use Prim.Native.Nat.{◌+◌, ◌-◌}
+use Prim.Native.Nat.{◌+◌}
 use native.Mathlib.Omega.{arith}
 use lib.ListN.{length}
 use Rattle.diagram.specs.Lent.{Lent, lent, layer, first_edge}

@@ -2,7 +2,6 @@
 use mathlib.Core.Path.{◌≡◌, refl, sym, ◌∙◌, ap, subst}
 use mathlib.Core.List.{List, ◌++◌}
 use Prim.Native.Nat.{ℕ, ◌+◌}
-use borrow.Author.Rules.{rules}
 use Rattle.refusal.specs.Rules.{Rule, chain}
 use Rattle.refusal.proofs.RulesLaws.{refuses, passes}
 use Rattle.diagram_file.specs.Lines.{one_line, value_of}

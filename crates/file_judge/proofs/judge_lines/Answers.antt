@@ -1,5 +1,4 @@
 -- `file_judge::judge_lines` meets its contract: before each turn the lines passed have the form. Assumes nothing.
-use Prim.Native.Nat.{◌-◌}
 use native.Mathlib.Omega.{arith}
 use borrow.Author.Tests.{not-true, not-false}
 use Rattle.file_judge.proofs.PartLaws.{walk_none, walk_more, walk_stops, walk_all}

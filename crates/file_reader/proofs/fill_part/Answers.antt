@@ -1,6 +1,6 @@
 -- `file_reader::fill_part` meets its contract: before each turn the values of the lines passed are stored. Assumes nothing.
 use mathlib.Core.Path.{ap}
-use Prim.Native.Nat.{◌-◌, ◌≤◌, ◌<◌}
+use Prim.Native.Nat.{◌≤◌, ◌<◌}
 use native.Mathlib.Omega.{arith}
 use lib.ListN.{length}
 use Rattle.diagram_file.specs.declared.Line.{Line}

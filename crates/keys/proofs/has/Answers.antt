@@ -1,6 +1,5 @@
 -- `keys::has` meets its contract: before turn k the first k bytes of the key stand there. Assumes nothing.
 use mathlib.Core.Path.{sym}
-use Prim.Native.Nat.{◌-◌}
 use native.Mathlib.Omega.{arith}
 use borrow.Author.Rules.{rules}
 use Rattle.keys.proofs.HasLaws.{has_none, has_short, alike_none, alike_more, alike_not, alike_all}

@@ -29,8 +29,8 @@ loop-j-preserved c =
     let e = after_root (lent s.domains.now s.layers.now []) l.j ∙ sym (breaks_by (length s.domains.now) (get_or s.layers.now l.j 0) (get_or s.layers.now (l.j + 1) 0) o.options_of-options.ensures (omega (arith, c.type_inv.layers (l.j + 1))) c.breaks.ensures) in (
       search rules,
       elim c.if-breaks.branch [
-        then-breaks w ↦ w.n-is ∙ count_found _ l.j l.invariant.1 (e ∙ w.if-breaks.true)
-      | else-breaks w ↦ w.n-is ∙ count_pass _ l.j l.invariant.1 (e ∙ w.if-breaks.false)
+        | then-breaks w ↦ w.n-is ∙ count_found _ l.j l.invariant.1 (e ∙ w.if-breaks.true)
+        | else-breaks w ↦ w.n-is ∙ count_pass _ l.j l.invariant.1 (e ∙ w.if-breaks.false)
       ],
     )
 

@@ -1,6 +1,5 @@
 -- `layer_check::search_bad_layer` meets its contract: none below v is bad. Assumes nothing.
 use mathlib.Core.Path.{sym, ◌∙◌}
-use Prim.Native.Nat.{◌-◌}
 use native.Mathlib.Omega.{arith}
 use borrow.Author.Rules.{rules}
 use Rattle.lists.proofs.FirstLaws.{start, pass, stop, done}

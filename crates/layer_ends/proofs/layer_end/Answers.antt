@@ -1,5 +1,4 @@
 -- `layer_ends::layer_end` meets its contract: before each turn no layer passed one at a time is above. Assumes nothing.
-use Prim.Native.Nat.{◌-◌}
 use Rattle.layer_ends.proofs.EndLaws.{step_none, step_more, step_above, step_end, past_end}
 use Rattle.layer_ends.proofs.layer_end.Goals as goal
 

@@ -1,5 +1,4 @@
 -- `layer_ends::skip_ahead` meets its contract: before each turn all eights passed are low. Assumes nothing.
-use Prim.Native.Nat.{◌-◌}
 use native.Mathlib.Omega.{arith}
 use Rattle.layer_ends.proofs.EndLaws.{skip_none, skip_more, skip_above, skip_end}
 use Rattle.layer_ends.proofs.skip_ahead.Goals as goal

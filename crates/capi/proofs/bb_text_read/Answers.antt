@@ -1,0 +1,9 @@
+-- `capi::bb_text_read` meets its contract: what `read_text` said. Assumes nothing.
+use Rattle.calls.proofs.CallLaws.{called_short, called_long}
+use Rattle.capi.proofs.bb_text_read.Goals as goal
+
+pub returns-then-answer-lt-ENTRIES : goal.returns-then-answer-lt-ENTRIES
+returns-then-answer-lt-ENTRIES c = called_short c.if-answer-lt-ENTRIES.true
+
+pub returns : goal.returns
+returns c = called_long c.if-answer-lt-ENTRIES.false c.read_text-read.ensures c.post_read.ensures
