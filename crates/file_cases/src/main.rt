@@ -5,6 +5,8 @@
 mod file_cases;
 mod run;
 
-fn main() {
-    file_cases::run_all();
+use std::io;
+
+fn main(rt: HostRuntime) -> io::Result<()> {
+    file_cases::run_all(&mut rt.stdout())
 }

@@ -3,7 +3,11 @@
 #![tactic(auto)]
 mod scope_samples;
 
-fn main() {
+use std::io;
+
+fn main(rt: HostRuntime) -> io::Result<()> {
+    let mut w = rt.stdout();
     let mut words = [0i32; 2048];
-    show::tell_last(scope_samples::run_all(&mut words));
+    let differ = scope_samples::run_all(&mut w, &mut words)?;
+    show::tell_last(&mut w, differ)
 }
