@@ -4,8 +4,9 @@
 #![tactic(auto)]
 mod advice;
 
-ghost use Rattle.std.specs.Prelude.{◌≡◌, length};
+ghost use Rattle.std.specs.Prelude.{◌≡◌, ◌<◌, length, take, IfOk};
 ghost use Rattle.std.specs.Io.{ReadsAtMost};
+ghost use Rattle.std.specs.Io.KnownBytes.{Consumes, IsAtEnd};
 
 use desk::DeskRun;
 use std::io;
@@ -28,7 +29,9 @@ fn no_output() -> [u8; desk::OUTPUT]
 
 // Reads until `buf` is full or the input ends, however the input is cut, and gives how many bytes it put at the front.
 fn read_full<R: Read>(from: &mut R, buf: &mut [u8]) -> io::Result<usize>
-    ensures { ReadsAtMost result buf.new }
+    ensures in_bounds { ReadsAtMost result buf.new }
+    ensures bytes { IfOk result (λ n. Consumes (R.remaining from.old) (R.remaining from.new) (take n buf.new)) }
+    ensures end { IfOk result (λ n. n < length buf.new → IsAtEnd (R.remaining from.new)) }
 {
     let mut done = 0;
     while done < buf.len() {
