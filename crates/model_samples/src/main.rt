@@ -1,6 +1,7 @@
 // A program: the scope's samples of models, one line a sample with what is expected and what came. The last line says how many
 // things differ. Assumes nothing.
 #![tactic(auto)]
+
 use model::ModelRead;
 use numbers::{entry, sum, unlike};
 use show::{end_case, group};

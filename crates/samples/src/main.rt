@@ -1,6 +1,7 @@
 // A program: the scope's samples of diagrams and builds, one line a sample with what is expected and what came. The last line
 // says how many things differ. Assumes nothing.
 #![tactic(auto)]
+
 mod scope_samples;
 
 use std::io;

@@ -57,7 +57,9 @@ fn passes<W: Write>(
         clauses,
         variables,
     };
-    encode(w, name, domains, layers, targets, needed, right, words, differ)
+    encode(
+        w, name, domains, layers, targets, needed, right, words, differ,
+    )
 }
 
 // A diagram that is refused, with 77 words of room.
@@ -118,7 +120,17 @@ fn room<W: Write>(w: &mut W, words: &mut [i32], differ: &mut usize) -> io::Resul
 }
 
 fn targets<W: Write>(w: &mut W, words: &mut [i32], differ: &mut usize) -> io::Result<()> {
-    refuses(w, b"S5", &[2, 2], &[1, 2], &[1, 0, 0, 1], 6, 0, words, differ)?;
+    refuses(
+        w,
+        b"S5",
+        &[2, 2],
+        &[1, 2],
+        &[1, 0, 0, 1],
+        6,
+        0,
+        words,
+        differ,
+    )?;
     refuses(
         w,
         b"S5 with three targets",
@@ -238,7 +250,14 @@ fn tell_verdict<W: Write>(w: &mut W, before: &[u8], v: Verdict) -> io::Result<()
 }
 
 // Judges a build of S3.
-fn judge<W: Write>(w: &mut W, name: &[u8], build: &[u32], right: Verdict, marks: &mut [i32], differ: &mut usize) -> io::Result<()> {
+fn judge<W: Write>(
+    w: &mut W,
+    name: &[u8],
+    build: &[u32],
+    right: Verdict,
+    marks: &mut [i32],
+    differ: &mut usize,
+) -> io::Result<()> {
     show::say(w, name)?;
     let came = compare::judge(&[2, 2], &[1, 2], &[3, 0, 0, 1], build, marks, differ);
     tell_verdict(w, b": expected", right)?;

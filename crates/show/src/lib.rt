@@ -1,8 +1,13 @@
 // Printing for the programs that run samples and cases: fixed bytes, numbers, words, bytes as a person reads them, and what a
 // reading of clause text gives. Each function writes to the writer that it is lent, and gives the error of a writing that fails.
-// Its functions are proved to be safe and to end. Assumes nothing.
+// Its functions are proved to be safe and to end; of fixed bytes, numbers and words a contract says what is written, where the
+// writer's bytes are known. Assumes nothing.
 #![tactic(auto)]
-ghost use Rattle.std.specs.Prelude.{◌≡◌, ◌≤◌, length, take};
+
+ghost use Rattle.std.specs.Prelude.{◌≡◌, ◌≤◌, [], ◌∷◌, ◌++◌, length, take, slice_range, OnOk};
+ghost use Rattle.std.specs.Fmt.{decimal};
+ghost use Rattle.std.specs.Io.KnownBytes.{Appends};
+ghost use Rattle.show.specs.Shown.{refused_name, place_name, word_shown, words_shown};
 
 use cnf::Tally;
 use dimacs::TextRead;
@@ -11,22 +16,30 @@ use refusal::Refusal;
 use std::io;
 use std::io::Write;
 
-pub fn say<W: Write>(w: &mut W, bytes: &[u8]) -> io::Result<()> {
+pub fn say<W: Write>(w: &mut W, bytes: &[u8]) -> io::Result<()>
+    ensures { OnOk result (Appends (W.contents w.old) (W.contents w.new) bytes.now) }
+{
     w.write_all(bytes)
 }
 
-pub fn say_number<W: Write>(w: &mut W, n: u64) -> io::Result<()> {
+pub fn say_number<W: Write>(w: &mut W, n: u64) -> io::Result<()>
+    ensures { OnOk result (Appends (W.contents w.old) (W.contents w.new) (decimal n)) }
+{
     write!(w, "{n}")
 }
 
 // A name with its `=`, and a number.
-pub fn say_named<W: Write>(w: &mut W, name: &[u8], n: u64) -> io::Result<()> {
+pub fn say_named<W: Write>(w: &mut W, name: &[u8], n: u64) -> io::Result<()>
+    ensures { OnOk result (Appends (W.contents w.old) (W.contents w.new) (name.now ++ decimal n)) }
+{
     say(w, name)?;
     say_number(w, n)
 }
 
 // A refusal's number and place.
-pub fn say_refusal<W: Write>(w: &mut W, number: usize, place: usize) -> io::Result<()> {
+pub fn say_refusal<W: Write>(w: &mut W, number: usize, place: usize) -> io::Result<()>
+    ensures { OnOk result (Appends (W.contents w.old) (W.contents w.new) (refused_name ++ decimal number ++ place_name ++ decimal place)) }
+{
     say_named(w, b" refused=", number as u64)?;
     say_named(w, b" place=", place as u64)
 }
@@ -34,7 +47,9 @@ pub fn say_refusal<W: Write>(w: &mut W, number: usize, place: usize) -> io::Resu
 // ---- words
 
 // A space, and a word.
-fn say_word<W: Write>(w: &mut W, word: i32) -> io::Result<()> {
+fn say_word<W: Write>(w: &mut W, word: i32) -> io::Result<()>
+    ensures { OnOk result (Appends (W.contents w.old) (W.contents w.new) (word_shown word)) }
+{
     say(w, b" ")?;
     if word < 0 {
         say(w, b"-")?;
@@ -43,7 +58,9 @@ fn say_word<W: Write>(w: &mut W, word: i32) -> io::Result<()> {
 }
 
 // The words from `from` up to `to`, or to the end of the list.
-pub fn say_words<W: Write>(w: &mut W, words: &[i32], from: usize, to: usize) -> io::Result<()> {
+pub fn say_words<W: Write>(w: &mut W, words: &[i32], from: usize, to: usize) -> io::Result<()>
+    ensures { OnOk result (Appends (W.contents w.old) (W.contents w.new) (words_shown (slice_range words.now from to))) }
+{
     for k in from..to {
         if words.len() <= k {
             return Ok(());
@@ -94,7 +111,9 @@ pub fn say_quoted<W: Write>(w: &mut W, text: &[u8], from: usize, to: usize) -> i
 }
 
 // A heading over the cases that follow.
-pub fn group<W: Write>(w: &mut W, name: &[u8]) -> io::Result<()> {
+pub fn group<W: Write>(w: &mut W, name: &[u8]) -> io::Result<()>
+    ensures { OnOk result (Appends (W.contents w.old) (W.contents w.new) (45 ∷ 45 ∷ 32 ∷ (name.now ++ 10 ∷ []))) }
+{
     say(w, b"-- ")?;
     say(w, name)?;
     say(w, b"\n")

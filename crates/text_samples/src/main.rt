@@ -1,6 +1,7 @@
 // A program: the scope's samples of clause text, one line a sample with what came and what is expected. The last line says how
 // many things differ. Assumes nothing.
 #![tactic(auto)]
+
 use dimacs::TextRead;
 use numbers::{sum, unlike, unlike_word};
 use show::{end_case, group, read_open};
