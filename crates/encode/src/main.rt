@@ -2,6 +2,7 @@
 // What it does is `run` of the crate `desk`; here are only reading and writing. A reading or writing that fails ends the
 // program with its error. Assumes nothing.
 #![tactic(auto)]
+
 mod advice;
 
 ghost use Rattle.std.specs.Prelude.{◌≡◌, ◌<◌, length, take, IfOk};

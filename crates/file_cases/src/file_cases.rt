@@ -79,7 +79,10 @@ fn later_lines<W: Write>(w: &mut W) -> io::Result<()> {
 }
 
 fn diagrams<W: Write>(w: &mut W) -> io::Result<()> {
-    group(w, b"file: diagrams that are refused once the file is well formed")?;
+    group(
+        w,
+        b"file: diagrams that are refused once the file is well formed",
+    )?;
     run_desk(w, b"options=0\nnodes=0\nedges=0\n", 20)?;
     run_desk(w, b"options=1\ndomain=4294967295\nnodes=0\nedges=0\n", 20)?;
     run_desk(w, b"options=1\ndomain=2\nnodes=0\nedges=0\n", 20)?;

@@ -2,6 +2,7 @@
 // `|` the entries of the lent buffer that keep their mark. The file `stdout` has what the scope makes of each case, worked out by
 // hand. Assumes nothing.
 #![tactic(auto)]
+
 mod file_cases;
 mod run;
 
