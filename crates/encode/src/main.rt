@@ -1,13 +1,14 @@
 // The program: reads a diagram file from standard input and prints its clause text, or two lines that tell why it is refused.
-// What it does is `run` of the crate `desk`; here are only reading and writing. A reading or writing that fails ends the
+// What it does is `run` of the crate `desk_run`; here are only reading and writing. A reading or writing that fails ends the
 // program with its error. Assumes nothing.
 #![tactic(auto)]
 
 mod advice;
 
-ghost use Rattle.std.specs.Prelude.{◌≡◌, ◌<◌, length, take, IfOk};
+ghost use Rattle.std.specs.Prelude.{◌≡◌, ◌<◌, ◌≤◌, length, take, IfOk, IfSome, OnOk};
 ghost use Rattle.std.specs.Io.{ReadsAtMost};
-ghost use Rattle.std.specs.Io.KnownBytes.{Consumes, IsAtEnd};
+ghost use Rattle.std.specs.Io.KnownBytes.{Appends, Consumes, IsAtEnd};
+ghost use Rattle.encode.specs.Program.{told_count, PrintedOn};
 
 use desk::DeskRun;
 use std::io;
@@ -46,7 +47,9 @@ fn read_full<R: Read>(from: &mut R, buf: &mut [u8]) -> io::Result<usize>
 }
 
 // The first n bytes.
-fn print<W: Write>(w: &mut W, out: &[u8], n: usize) -> io::Result<()> {
+fn print<W: Write>(w: &mut W, out: &[u8], n: usize) -> io::Result<()>
+    ensures { n ≤ length out.now → OnOk result (Appends (W.contents w.old) (W.contents w.new) (take n out.now)) }
+{
     if n <= out.len() {
         w.write_all(&out[..n])?;
     }
@@ -54,12 +57,9 @@ fn print<W: Write>(w: &mut W, out: &[u8], n: usize) -> io::Result<()> {
 }
 
 // What was put into `out`, and for a refusal a sentence beside it. As many bytes as are lent here are never too few.
-fn tell<W: Write, E: Write>(
-    w: &mut W,
-    err: &mut E,
-    outcome: DeskRun,
-    out: &[u8],
-) -> io::Result<()> {
+fn tell<W: Write, E: Write>(w: &mut W, err: &mut E, outcome: DeskRun, out: &[u8]) -> io::Result<()>
+    ensures { told_count outcome ≤ length out.now → OnOk result (Appends (W.contents w.old) (W.contents w.new) (take (told_count outcome) out.now)) }
+{
     match outcome {
         DeskRun::Text(n) => print(w, out, n),
         DeskRun::Told(n, refusal) => {
@@ -70,11 +70,19 @@ fn tell<W: Write, E: Write>(
     }
 }
 
-fn main(rt: HostRuntime) -> io::Result<()> {
+// From the bytes that are read to the bytes that are written: where the input's bytes are known, what is written is what is to
+// be printed for them.
+fn encode<R: Read, W: Write, E: Write>(from: &mut R, w: &mut W, err: &mut E) -> io::Result<()>
+    ensures { OnOk result (IfSome (R.remaining from.old) (λ input. PrintedOn input (W.contents w.old) (W.contents w.new))) }
+{
     let mut input = no_input();
-    let n = read_full(&mut rt.stdin(), &mut input)?;
+    let n = read_full(from, &mut input)?;
     let mut out = no_output();
     let answer = desk_run::run(&input[..n], &mut out);
     let outcome = answer.outcome;
-    tell(&mut rt.stdout(), &mut rt.stderr(), outcome, &out)
+    tell(w, err, outcome, &out)
+}
+
+fn main(rt: HostRuntime) -> io::Result<()> {
+    encode(&mut rt.stdin(), &mut rt.stdout(), &mut rt.stderr())
 }
