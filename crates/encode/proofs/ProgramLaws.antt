@@ -1,12 +1,12 @@
 -- From what is read to what is written. Assumes nothing.
-use Rattle.std.proofs.Common.{◌≡◌, ℕ, ◌+◌, ◌-◌, ◌<◌, ◌≤◌, List, [], ◌++◌, Option, None, Some, IfSome, OnOk, Result, Ok, Err, length, take, drop, refl, sym, ap, ◌∙◌, subst, arith, take_all, append-nil, length-take-le, le_refl}
+use Rattle.std.proofs.Common.{◌≡◌, ℕ, ◌<◌, ◌≤◌, List, ◌++◌, Option, None, Some, IfSome, OnOk, Result, Ok, Err, length, take, refl, sym, ap, ◌∙◌, subst, arith, take_all, append-nil, length-take-le, inl, inr}
 use Rattle.std.proofs.lemmas.List.{take-append-le, length-take}
 use Rattle.std.proofs.Math.Nat.{eq-or-lt_of_le}
 use Rattle.std.specs.Io.KnownBytes.{Appends, Consumes, IsAtEnd}
 use Rattle.lists.proofs.UptoLaws.{below_or_not}
 use Rattle.refusal.specs.Rules.{refusal}
-use Rattle.desk.specs.Output.{desk_table, refusal_lines}
-use Rattle.desk.specs.Promise.{DeskPromise, Printed, refusal_as_lines, clause_text, Prints}
+use Rattle.desk.specs.Output.{refusal_lines}
+use Rattle.desk.specs.Promise.{DeskPromise, Printed, refusal_as_lines, clause_text}
 use Rattle.desk.specs.declared.DeskRun.{DeskRun}
 use Rattle.desk.specs.declared.DeskRun.TheVariants as run
 use Rattle.desk.specs.declared.DeskAnswer.{DeskAnswer}

@@ -1,5 +1,5 @@
 -- What the program writes. Assumes nothing.
-use Rattle.std.specs.Prelude.{List, [], ℕ, Option, take}
+use Rattle.std.specs.Prelude.{List, ℕ, Option}
 use Rattle.std.specs.Io.KnownBytes.{Appends}
 use Rattle.desk.specs.Promise.{Printed}
 use Rattle.desk.specs.declared.DeskRun.{DeskRun}
