@@ -2,9 +2,12 @@
 // `|` the entries of the lent buffer that keep their mark. The file `stdout` has what the scope makes of each case, worked out by
 // hand. Assumes nothing.
 #![tactic(auto)]
+
 mod file_cases;
 mod run;
 
-fn main() {
-    file_cases::run_all();
+use std::io;
+
+fn main(rt: HostRuntime) -> io::Result<()> {
+    file_cases::run_all(&mut rt.stdout())
 }

@@ -1,9 +1,12 @@
 // A program: the scope's samples of models, one line a sample with what is expected and what came. The last line says how many
 // things differ. Assumes nothing.
 #![tactic(auto)]
+
 use model::ModelRead;
 use numbers::{entry, sum, unlike};
 use show::{end_case, group};
+use std::io;
+use std::io::Write;
 
 // A refusal's number (0 is none) and place, or how many values were written; and the two numbers that were lent.
 #[derive(Clone, Copy)]
@@ -53,13 +56,12 @@ fn unlike_built(a: Built, b: Built) -> usize {
     sum(sum(refusals, lists), unlike(a.length, b.length))
 }
 
-fn tell_built(before: &[u8], b: Built) {
-    show::say(before);
+fn tell_built<W: Write>(w: &mut W, before: &[u8], b: Built) -> io::Result<()> {
+    show::say(w, before)?;
     if b.number != 0 {
-        show::say_refusal(b.number, b.place);
-        return;
+        return show::say_refusal(w, b.number, b.place);
     }
-    show::say_named(b" build=", b.first as u64);
+    show::say_named(w, b" build=", b.first as u64)
 }
 
 // Reads a model of S1 into a list of two sevens.
@@ -71,36 +73,44 @@ fn came_of(literals: &[i32]) -> Built {
 }
 
 // A model that is refused leaves a seven where the value would be.
-fn model(literals: &[i32], number: usize, place: usize, value: usize, differ: &mut usize) {
-    show::say(b"S8 with model [");
-    show::say_words(literals, 0, literals.len());
+fn model<W: Write>(
+    w: &mut W,
+    literals: &[i32],
+    number: usize,
+    place: usize,
+    value: usize,
+    differ: &mut usize,
+) -> io::Result<()> {
+    show::say(w, b"S8 with model [")?;
+    show::say_words(w, literals, 0, literals.len())?;
     let right = expected(number, place, value);
     let came = came_of(literals);
-    tell_built(b" ]: expected", right);
-    tell_built(b", came", came);
-    end_case(unlike_built(came, right), differ);
+    tell_built(w, b" ]: expected", right)?;
+    tell_built(w, b", came", came)?;
+    end_case(w, unlike_built(came, right), differ)
 }
 
-fn run_models(differ: &mut usize) {
-    group(b"the scope: models of S1");
-    model(&[-1, 2], 0, 0, 1, differ);
-    model(&[2], 0, 0, 1, differ);
-    model(&[1], 13, 0, 7, differ);
-    model(&[], 12, 0, 7, differ);
-    model(&[1, 2], 12, 0, 7, differ);
+fn run_models<W: Write>(w: &mut W, differ: &mut usize) -> io::Result<()> {
+    group(w, b"the scope: models of S1")?;
+    model(w, &[-1, 2], 0, 0, 1, differ)?;
+    model(w, &[2], 0, 0, 1, differ)?;
+    model(w, &[1], 13, 0, 7, differ)?;
+    model(w, &[], 12, 0, 7, differ)?;
+    model(w, &[1, 2], 12, 0, 7, differ)
 }
 
-fn run_bad_literals(differ: &mut usize) {
-    model(&[2, -2], 11, 1, 7, differ);
-    model(&[2, -2, 0], 10, 2, 7, differ);
-    model(&[8], 10, 0, 7, differ);
-    model(&[0], 10, 0, 7, differ);
-    model(&[-2147483648], 10, 0, 7, differ);
+fn run_bad_literals<W: Write>(w: &mut W, differ: &mut usize) -> io::Result<()> {
+    model(w, &[2, -2], 11, 1, 7, differ)?;
+    model(w, &[2, -2, 0], 10, 2, 7, differ)?;
+    model(w, &[8], 10, 0, 7, differ)?;
+    model(w, &[0], 10, 0, 7, differ)?;
+    model(w, &[-2147483648], 10, 0, 7, differ)
 }
 
-fn main() {
+fn main(rt: HostRuntime) -> io::Result<()> {
+    let mut w = rt.stdout();
     let mut differ: usize = 0;
-    run_models(&mut differ);
-    run_bad_literals(&mut differ);
-    show::tell_last(differ);
+    run_models(&mut w, &mut differ)?;
+    run_bad_literals(&mut w, &mut differ)?;
+    show::tell_last(&mut w, differ)
 }

@@ -3,22 +3,24 @@ use comparison::compare;
 use comparison::compare::{Answer, refused, unlike_answers, unlike_verdicts};
 use second::builds::Verdict;
 use show::{end_case, group};
+use std::io;
+use std::io::Write;
 
 // ---- diagrams
 
-fn tell_answer(before: &[u8], a: Answer) {
-    show::say(before);
+fn tell_answer<W: Write>(w: &mut W, before: &[u8], a: Answer) -> io::Result<()> {
+    show::say(w, before)?;
     if a.number != 0 {
-        show::say_refusal(a.number, a.place);
-        return;
+        return show::say_refusal(w, a.number, a.place);
     }
-    show::say_named(b" words=", a.words as u64);
-    show::say_named(b" clauses=", a.clauses as u64);
-    show::say_named(b" variables=", a.variables as u64);
+    show::say_named(w, b" words=", a.words as u64)?;
+    show::say_named(w, b" clauses=", a.clauses as u64)?;
+    show::say_named(w, b" variables=", a.variables as u64)
 }
 
 // Encodes a diagram with so much room.
-fn encode(
+fn encode<W: Write>(
+    w: &mut W,
     name: &[u8],
     domains: &[u32],
     layers: &[u32],
@@ -27,16 +29,17 @@ fn encode(
     right: Answer,
     words: &mut [i32],
     differ: &mut usize,
-) {
-    show::say(name);
+) -> io::Result<()> {
+    show::say(w, name)?;
     let came = compare::encode(domains, layers, targets, words, room, differ);
-    tell_answer(b": expected", right);
-    tell_answer(b", came", came);
-    end_case(unlike_answers(came, right), differ);
+    tell_answer(w, b": expected", right)?;
+    tell_answer(w, b", came", came)?;
+    end_case(w, unlike_answers(came, right), differ)
 }
 
 // A diagram that passes: these are the counts of its result, and there is as much room as it needs.
-fn passes(
+fn passes<W: Write>(
+    w: &mut W,
     name: &[u8],
     domains: &[u32],
     layers: &[u32],
@@ -46,7 +49,7 @@ fn passes(
     variables: usize,
     words: &mut [i32],
     differ: &mut usize,
-) {
+) -> io::Result<()> {
     let right = Answer {
         number: 0,
         place: 0,
@@ -54,11 +57,14 @@ fn passes(
         clauses,
         variables,
     };
-    encode(name, domains, layers, targets, needed, right, words, differ);
+    encode(
+        w, name, domains, layers, targets, needed, right, words, differ,
+    )
 }
 
 // A diagram that is refused, with 77 words of room.
-fn refuses(
+fn refuses<W: Write>(
+    w: &mut W,
     name: &[u8],
     domains: &[u32],
     layers: &[u32],
@@ -67,8 +73,9 @@ fn refuses(
     place: usize,
     words: &mut [i32],
     differ: &mut usize,
-) {
+) -> io::Result<()> {
     encode(
+        w,
         name,
         domains,
         layers,
@@ -77,17 +84,18 @@ fn refuses(
         refused(number, place),
         words,
         differ,
-    );
+    )
 }
 
-fn passing(words: &mut [i32], differ: &mut usize) {
-    group(b"the scope: samples of diagrams");
-    passes(b"S1", &[2], &[1], &[0, 1], 42, 14, 7, words, differ);
-    passes(b"S2", &[1], &[1], &[1], 24, 9, 5, words, differ);
+fn passing<W: Write>(w: &mut W, words: &mut [i32], differ: &mut usize) -> io::Result<()> {
+    group(w, b"the scope: samples of diagrams")?;
+    passes(w, b"S1", &[2], &[1], &[0, 1], 42, 14, 7, words, differ)?;
+    passes(w, b"S2", &[1], &[1], &[1], 24, 9, 5, words, differ)
 }
 
-fn room(words: &mut [i32], differ: &mut usize) {
+fn room<W: Write>(w: &mut W, words: &mut [i32], differ: &mut usize) -> io::Result<()> {
     refuses(
+        w,
         b"S4, S3 with room for 77",
         &[2, 2],
         &[1, 2],
@@ -96,8 +104,9 @@ fn room(words: &mut [i32], differ: &mut usize) {
         78,
         words,
         differ,
-    );
+    )?;
     passes(
+        w,
         b"S3 and S4, with room for 78",
         &[2, 2],
         &[1, 2],
@@ -107,12 +116,23 @@ fn room(words: &mut [i32], differ: &mut usize) {
         12,
         words,
         differ,
-    );
+    )
 }
 
-fn targets(words: &mut [i32], differ: &mut usize) {
-    refuses(b"S5", &[2, 2], &[1, 2], &[1, 0, 0, 1], 6, 0, words, differ);
+fn targets<W: Write>(w: &mut W, words: &mut [i32], differ: &mut usize) -> io::Result<()> {
     refuses(
+        w,
+        b"S5",
+        &[2, 2],
+        &[1, 2],
+        &[1, 0, 0, 1],
+        6,
+        0,
+        words,
+        differ,
+    )?;
+    refuses(
+        w,
         b"S5 with three targets",
         &[2, 2],
         &[1, 2],
@@ -121,11 +141,12 @@ fn targets(words: &mut [i32], differ: &mut usize) {
         0,
         words,
         differ,
-    );
+    )
 }
 
-fn bad_domains(words: &mut [i32], differ: &mut usize) {
+fn bad_domains<W: Write>(w: &mut W, words: &mut [i32], differ: &mut usize) -> io::Result<()> {
     refuses(
+        w,
         b"S6 with domains 2 0",
         &[2, 0],
         &[1],
@@ -134,8 +155,9 @@ fn bad_domains(words: &mut [i32], differ: &mut usize) {
         1,
         words,
         differ,
-    );
+    )?;
     refuses(
+        w,
         b"S6 with domain 33",
         &[33],
         &[1],
@@ -144,13 +166,14 @@ fn bad_domains(words: &mut [i32], differ: &mut usize) {
         0,
         words,
         differ,
-    );
+    )
 }
 
 // One option of 32 values, all to T: 6 + 2 + 14 * 32 + 33 + 3 * 496 words, 3 + 1 + 4 * 32 + 1 + 496 clauses, 32 + 1 + 2 + 32
 // variables.
-fn widest_domain(words: &mut [i32], differ: &mut usize) {
+fn widest_domain<W: Write>(w: &mut W, words: &mut [i32], differ: &mut usize) -> io::Result<()> {
     passes(
+        w,
         b"S6 with domain 32, all to T",
         &[32],
         &[1],
@@ -160,11 +183,12 @@ fn widest_domain(words: &mut [i32], differ: &mut usize) {
         67,
         words,
         differ,
-    );
+    )
 }
 
-fn bad_options(words: &mut [i32], differ: &mut usize) {
+fn bad_options<W: Write>(w: &mut W, words: &mut [i32], differ: &mut usize) -> io::Result<()> {
     refuses(
+        w,
         b"S7 with 0 options",
         &[],
         &[1],
@@ -173,8 +197,9 @@ fn bad_options(words: &mut [i32], differ: &mut usize) {
         0,
         words,
         differ,
-    );
+    )?;
     refuses(
+        w,
         b"S7 with 65 options",
         &[2; 65],
         &[1],
@@ -183,12 +208,13 @@ fn bad_options(words: &mut [i32], differ: &mut usize) {
         0,
         words,
         differ,
-    );
+    )
 }
 
-fn bad_nodes(words: &mut [i32], differ: &mut usize) {
-    refuses(b"S7 with no nodes", &[2], &[], &[], 3, 0, words, differ);
+fn bad_nodes<W: Write>(w: &mut W, words: &mut [i32], differ: &mut usize) -> io::Result<()> {
+    refuses(w, b"S7 with no nodes", &[2], &[], &[], 3, 0, words, differ)?;
     refuses(
+        w,
         b"S7 with layers 1 1",
         &[2, 2],
         &[1, 1],
@@ -197,40 +223,46 @@ fn bad_nodes(words: &mut [i32], differ: &mut usize) {
         1,
         words,
         differ,
-    );
+    )
 }
 
-fn run_diagrams(words: &mut [i32], differ: &mut usize) {
-    passing(words, differ);
-    room(words, differ);
-    targets(words, differ);
-    bad_domains(words, differ);
-    widest_domain(words, differ);
-    bad_options(words, differ);
-    bad_nodes(words, differ);
+fn run_diagrams<W: Write>(w: &mut W, words: &mut [i32], differ: &mut usize) -> io::Result<()> {
+    passing(w, words, differ)?;
+    room(w, words, differ)?;
+    targets(w, words, differ)?;
+    bad_domains(w, words, differ)?;
+    widest_domain(w, words, differ)?;
+    bad_options(w, words, differ)?;
+    bad_nodes(w, words, differ)
 }
 
 // ---- builds
 
-fn tell_verdict(before: &[u8], v: Verdict) {
-    show::say(before);
+fn tell_verdict<W: Write>(w: &mut W, before: &[u8], v: Verdict) -> io::Result<()> {
+    show::say(w, before)?;
     if v.number != 0 {
-        show::say_refusal(v.number, v.place);
-        return;
+        return show::say_refusal(w, v.number, v.place);
     }
     if v.allowed == 0 {
-        show::say(b" not");
+        show::say(w, b" not")?;
     }
-    show::say(b" allowed");
+    show::say(w, b" allowed")
 }
 
 // Judges a build of S3.
-fn judge(name: &[u8], build: &[u32], right: Verdict, marks: &mut [i32], differ: &mut usize) {
-    show::say(name);
+fn judge<W: Write>(
+    w: &mut W,
+    name: &[u8],
+    build: &[u32],
+    right: Verdict,
+    marks: &mut [i32],
+    differ: &mut usize,
+) -> io::Result<()> {
+    show::say(w, name)?;
     let came = compare::judge(&[2, 2], &[1, 2], &[3, 0, 0, 1], build, marks, differ);
-    tell_verdict(b": expected", right);
-    tell_verdict(b", came", came);
-    end_case(unlike_verdicts(came, right), differ);
+    tell_verdict(w, b": expected", right)?;
+    tell_verdict(w, b", came", came)?;
+    end_case(w, unlike_verdicts(came, right), differ)
 }
 
 const ALLOWED: Verdict = Verdict {
@@ -245,17 +277,17 @@ const NOT_ALLOWED: Verdict = Verdict {
     allowed: 0,
 };
 
-fn run_builds(marks: &mut [i32], differ: &mut usize) {
-    group(b"the scope: builds of S3");
-    judge(b"S3 with build 0 1", &[0, 1], ALLOWED, marks, differ);
-    judge(b"S3 with build 1 1", &[1, 1], NOT_ALLOWED, marks, differ);
+fn run_builds<W: Write>(w: &mut W, marks: &mut [i32], differ: &mut usize) -> io::Result<()> {
+    group(w, b"the scope: builds of S3")?;
+    judge(w, b"S3 with build 0 1", &[0, 1], ALLOWED, marks, differ)?;
+    judge(w, b"S3 with build 1 1", &[1, 1], NOT_ALLOWED, marks, differ)
 }
 
 // ---- all of them; gives how many things differ
 
-pub fn run_all(words: &mut [i32]) -> usize {
+pub fn run_all<W: Write>(w: &mut W, words: &mut [i32]) -> io::Result<usize> {
     let mut differ: usize = 0;
-    run_diagrams(words, &mut differ);
-    run_builds(words, &mut differ);
-    differ
+    run_diagrams(w, words, &mut differ)?;
+    run_builds(w, words, &mut differ)?;
+    Ok(differ)
 }

@@ -1,56 +1,73 @@
 // Printing for the programs that run samples and cases: fixed bytes, numbers, words, bytes as a person reads them, and what a
-// reading of clause text gives. Its functions are proved to be safe and to end; no contract can say what is printed. Assumes
-// nothing.
+// reading of clause text gives. Each function writes to the writer that it is lent, and gives the error of a writing that fails.
+// Its functions are proved to be safe and to end; of fixed bytes, numbers and words a contract says what is written, where the
+// writer's bytes are known. Assumes nothing.
 #![tactic(auto)]
-ghost use Rattle.io.specs.Counts.{IsPrefixLen};
+
+ghost use Rattle.std.specs.Prelude.{◌≡◌, ◌≤◌, [], ◌∷◌, ◌++◌, length, take, slice_range, OnOk};
+ghost use Rattle.std.specs.Fmt.{decimal};
+ghost use Rattle.std.specs.Io.KnownBytes.{Appends};
+ghost use Rattle.show.specs.Shown.{refused_name, place_name, word_shown, words_shown};
 
 use cnf::Tally;
 use dimacs::TextRead;
-use libc::STDOUT_FILENO;
 use numbers::add;
 use refusal::Refusal;
+use std::io;
+use std::io::Write;
 
-pub fn say(bytes: &[u8]) {
-    io::write_all(STDOUT_FILENO, bytes);
+pub fn say<W: Write>(w: &mut W, bytes: &[u8]) -> io::Result<()>
+    ensures { OnOk result (Appends (W.contents w.old) (W.contents w.new) bytes.now) }
+{
+    w.write_all(bytes)
 }
 
-pub fn say_number(n: u64) {
-    io::print_decimal(STDOUT_FILENO, n);
+pub fn say_number<W: Write>(w: &mut W, n: u64) -> io::Result<()>
+    ensures { OnOk result (Appends (W.contents w.old) (W.contents w.new) (decimal n)) }
+{
+    write!(w, "{n}")
 }
 
 // A name with its `=`, and a number.
-pub fn say_named(name: &[u8], n: u64) {
-    say(name);
-    say_number(n);
+pub fn say_named<W: Write>(w: &mut W, name: &[u8], n: u64) -> io::Result<()>
+    ensures { OnOk result (Appends (W.contents w.old) (W.contents w.new) (name.now ++ decimal n)) }
+{
+    say(w, name)?;
+    say_number(w, n)
 }
 
 // A refusal's number and place.
-pub fn say_refusal(number: usize, place: usize) {
-    say_named(b" refused=", number as u64);
-    say_named(b" place=", place as u64);
+pub fn say_refusal<W: Write>(w: &mut W, number: usize, place: usize) -> io::Result<()>
+    ensures { OnOk result (Appends (W.contents w.old) (W.contents w.new) (refused_name ++ decimal number ++ place_name ++ decimal place)) }
+{
+    say_named(w, b" refused=", number as u64)?;
+    say_named(w, b" place=", place as u64)
 }
 
 // ---- words
 
 // A space, and a word.
-fn say_word(word: i32) {
-    say(b" ");
+fn say_word<W: Write>(w: &mut W, word: i32) -> io::Result<()>
+    ensures { OnOk result (Appends (W.contents w.old) (W.contents w.new) (word_shown word)) }
+{
+    say(w, b" ")?;
     if word < 0 {
-        say(b"-");
+        say(w, b"-")?;
     }
-    say_number(variable::variable_of(word) as u64);
+    say_number(w, variable::variable_of(word) as u64)
 }
 
 // The words from `from` up to `to`, or to the end of the list.
-pub fn say_words(words: &[i32], from: usize, to: usize) {
-    let mut k = from;
-    while k < to {
+pub fn say_words<W: Write>(w: &mut W, words: &[i32], from: usize, to: usize) -> io::Result<()>
+    ensures { OnOk result (Appends (W.contents w.old) (W.contents w.new) (words_shown (slice_range words.now from to))) }
+{
+    for k in from..to {
         if words.len() <= k {
-            return;
+            return Ok(());
         }
-        say_word(words[k]);
-        k += 1;
+        say_word(w, words[k])?;
     }
+    Ok(())
 }
 
 // ---- bytes
@@ -63,115 +80,112 @@ fn is_plain(b: u8) -> bool {
     b < 127
 }
 
-fn say_byte(b: u8) {
+fn say_byte<W: Write>(w: &mut W, b: u8) -> io::Result<()> {
     if is_plain(b) {
-        say(&[b]);
-        return;
+        return say(w, &[b]);
     }
     match b {
-        b'\n' => say(b"\\n"),
-        b'\r' => say(b"\\r"),
-        b'\t' => say(b"\\t"),
-        _ => {
-            say(b"\\x");
-            io::print_hex(STDOUT_FILENO, b as u64, 2);
-        }
+        b'\n' => say(w, b"\\n"),
+        b'\r' => say(w, b"\\r"),
+        b'\t' => say(w, b"\\t"),
+        _ => write!(w, "\\x{b:02x}"),
     }
 }
 
 // The bytes from `from` up to `to`, or to the end of the text.
-fn say_bytes(text: &[u8], from: usize, to: usize) {
-    let mut k = from;
-    while k < to {
+fn say_bytes<W: Write>(w: &mut W, text: &[u8], from: usize, to: usize) -> io::Result<()> {
+    for k in from..to {
         if text.len() <= k {
-            return;
+            return Ok(());
         }
-        say_byte(text[k]);
-        k += 1;
+        say_byte(w, text[k])?;
     }
+    Ok(())
 }
 
 // The same between quotes.
-pub fn say_quoted(text: &[u8], from: usize, to: usize) {
-    say(b"\"");
-    say_bytes(text, from, to);
-    say(b"\"");
+pub fn say_quoted<W: Write>(w: &mut W, text: &[u8], from: usize, to: usize) -> io::Result<()> {
+    say(w, b"\"")?;
+    say_bytes(w, text, from, to)?;
+    say(w, b"\"")
 }
 
 // A heading over the cases that follow.
-pub fn group(name: &[u8]) {
-    say(b"-- ");
-    say(name);
-    say(b"\n");
+pub fn group<W: Write>(w: &mut W, name: &[u8]) -> io::Result<()>
+    ensures { OnOk result (Appends (W.contents w.old) (W.contents w.new) (45 ∷ 45 ∷ 32 ∷ (name.now ++ 10 ∷ []))) }
+{
+    say(w, b"-- ")?;
+    say(w, name)?;
+    say(w, b"\n")
 }
 
 // ---- clause text that is read
 
-pub fn tell_refusal(r: Refusal) {
-    say_refusal(r.number as usize, r.place);
+pub fn tell_refusal<W: Write>(w: &mut W, r: Refusal) -> io::Result<()> {
+    say_refusal(w, r.number as usize, r.place)
 }
 
-fn tell_tally(t: Tally) {
-    say_named(b" words=", t.words as u64);
-    say_named(b" clauses=", t.clauses as u64);
-    say_named(b" variables=", t.variables as u64);
-    say(b":");
+fn tell_tally<W: Write>(w: &mut W, t: Tally) -> io::Result<()> {
+    say_named(w, b" words=", t.words as u64)?;
+    say_named(w, b" clauses=", t.clauses as u64)?;
+    say_named(w, b" variables=", t.variables as u64)?;
+    say(w, b":")
 }
 
 // The lent list afterwards: its first words, a bar, and the others.
-fn tell_list(list: &[i32], words: usize) {
-    say_words(list, 0, words);
-    say(b" |");
-    say_words(list, words, list.len());
+fn tell_list<W: Write>(w: &mut W, list: &[i32], words: usize) -> io::Result<()> {
+    say_words(w, list, 0, words)?;
+    say(w, b" |")?;
+    say_words(w, list, words, list.len())
 }
 
-fn tell_read(outcome: TextRead, list: &[i32]) {
+fn tell_read<W: Write>(w: &mut W, outcome: TextRead, list: &[i32]) -> io::Result<()> {
     match outcome {
         TextRead::Read(t) => {
-            tell_tally(t);
-            tell_list(list, t.words);
+            tell_tally(w, t)?;
+            tell_list(w, list, t.words)
         }
         TextRead::Refused(r) => {
-            tell_refusal(r);
-            tell_list(list, 0);
+            tell_refusal(w, r)?;
+            tell_list(w, list, 0)
         }
     }
 }
 
 // Reads a text into a lent list, and leaves the line open.
-pub fn read_open(text: &[u8], list: &mut [i32]) -> TextRead {
-    say(b"read ");
-    say_quoted(text, 0, text.len());
-    say(b" ->");
+pub fn read_open<W: Write>(w: &mut W, text: &[u8], list: &mut [i32]) -> io::Result<TextRead> {
+    say(w, b"read ")?;
+    say_quoted(w, text, 0, text.len())?;
+    say(w, b" ->")?;
     let answer = text_reader::read_text(text, list);
     let outcome = answer.outcome;
-    tell_read(outcome, list);
-    outcome
+    tell_read(w, outcome, list)?;
+    Ok(outcome)
 }
 
 // n, or how many bytes there are where they are fewer.
 pub fn at_most(n: usize, bytes: &[u8]) -> usize
-    ensures { IsPrefixLen result bytes.now }
+    ensures in_bounds { result ≤ length bytes.now }
+    ensures taken { result ≡ length (take result bytes.now) }
 {
     if bytes.len() < n { bytes.len() } else { n }
 }
 
 // Ends the line of a case, and counts what differs.
-pub fn end_case(unlike: usize, differ: &mut usize) {
-    if unlike != 0 {
-        say(b" DIFFERS");
-    }
-    say(b"\n");
+pub fn end_case<W: Write>(w: &mut W, unlike: usize, differ: &mut usize) -> io::Result<()> {
     add(differ, unlike);
+    if unlike != 0 {
+        say(w, b" DIFFERS")?;
+    }
+    say(w, b"\n")
 }
 
 // The last line of a program that compares: how many things differ.
-pub fn tell_last(differ: usize) {
-    say(b"differ over everything: ");
+pub fn tell_last<W: Write>(w: &mut W, differ: usize) -> io::Result<()> {
+    say(w, b"differ over everything: ")?;
     if differ == 0 {
-        say(b"none\n");
-        return;
+        return say(w, b"none\n");
     }
-    say_number(differ as u64);
-    say(b"\n");
+    say_number(w, differ as u64)?;
+    say(w, b"\n")
 }

@@ -1,9 +1,12 @@
 // A program: the scope's samples of clause text, one line a sample with what came and what is expected. The last line says how
 // many things differ. Assumes nothing.
 #![tactic(auto)]
+
 use dimacs::TextRead;
 use numbers::{sum, unlike, unlike_word};
 use show::{end_case, group, read_open};
+use std::io;
+use std::io::Write;
 
 // A refusal's number, 0 for none, and place; or how many words were read.
 #[derive(Clone, Copy)]
@@ -44,42 +47,54 @@ fn unlike_list(list: &[i32], words: &[i32]) -> usize {
     n
 }
 
-fn tell_expected(number: usize, place: usize, words: &[i32]) {
-    show::say(b", expected");
+fn tell_expected<W: Write>(
+    w: &mut W,
+    number: usize,
+    place: usize,
+    words: &[i32],
+) -> io::Result<()> {
+    show::say(w, b", expected")?;
     if number != 0 {
-        show::say_refusal(number, place);
-        return;
+        return show::say_refusal(w, number, place);
     }
-    show::say(b" words:");
-    show::say_words(words, 0, words.len());
+    show::say(w, b" words:")?;
+    show::say_words(w, words, 0, words.len())
 }
 
 // Reads a text into four sevens; a refusal is expected, or with number 0 these words.
-fn read(text: &[u8], number: usize, place: usize, words: &[i32], differ: &mut usize) {
+fn read<W: Write>(
+    w: &mut W,
+    text: &[u8],
+    number: usize,
+    place: usize,
+    words: &[i32],
+    differ: &mut usize,
+) -> io::Result<()> {
     let mut list = [7i32; 4];
-    let came = answer_of(read_open(text, &mut list));
-    tell_expected(number, place, words);
+    let came = answer_of(read_open(w, text, &mut list)?);
+    tell_expected(w, number, place, words)?;
     let refusals = sum(unlike(came.number, number), unlike(came.place, place));
     let lists = sum(unlike(came.words, words.len()), unlike_list(&list, words));
-    end_case(sum(refusals, lists), differ);
+    end_case(w, sum(refusals, lists), differ)
 }
 
-fn good(differ: &mut usize) {
-    read(b"p cnf 1 1\n1 0", 0, 0, &[1, 0], differ);
-    read(b"p cnf 0 0\n", 0, 0, &[], differ);
+fn good<W: Write>(w: &mut W, differ: &mut usize) -> io::Result<()> {
+    read(w, b"p cnf 1 1\n1 0", 0, 0, &[1, 0], differ)?;
+    read(w, b"p cnf 0 0\n", 0, 0, &[], differ)
 }
 
-fn refused(differ: &mut usize) {
-    read(b"p cnf 1 1\n1", 15, 11, &[], differ);
-    read(b"p cnf 1 1\n2 0", 14, 10, &[], differ);
-    read(b"p cnf 1 1\n-0", 18, 10, &[], differ);
-    read(b"p cnf 1 2\n1 0", 19, 1, &[], differ);
+fn refused<W: Write>(w: &mut W, differ: &mut usize) -> io::Result<()> {
+    read(w, b"p cnf 1 1\n1", 15, 11, &[], differ)?;
+    read(w, b"p cnf 1 1\n2 0", 14, 10, &[], differ)?;
+    read(w, b"p cnf 1 1\n-0", 18, 10, &[], differ)?;
+    read(w, b"p cnf 1 2\n1 0", 19, 1, &[], differ)
 }
 
-fn main() {
-    group(b"the scope: samples of clause text");
+fn main(rt: HostRuntime) -> io::Result<()> {
+    let mut w = rt.stdout();
+    group(&mut w, b"the scope: samples of clause text")?;
     let mut differ: usize = 0;
-    good(&mut differ);
-    refused(&mut differ);
-    show::tell_last(differ);
+    good(&mut w, &mut differ)?;
+    refused(&mut w, &mut differ)?;
+    show::tell_last(&mut w, differ)
 }
