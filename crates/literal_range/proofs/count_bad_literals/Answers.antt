@@ -28,11 +28,13 @@ overflow_add-n c = let l = c.before.before.before.before in omega (arith, l.loop
 pub loop-k-preserved : goal.loop-k-preserved
 loop-k-preserved c =
     let l = c.loop-k in
-    let e = sym (said c.before) in
-    (search rules, elim c.if-is_bad_literal.branch [
-      then-is_bad_literal w ↦ w.n-is ∙ count_found _ l.k l.invariant.1 (e ∙ w.if-is_bad_literal.true)
-    | else-is_bad_literal w ↦ w.n-is ∙ count_pass _ l.k l.invariant.1 (e ∙ w.if-is_bad_literal.false)
-    ])
+    let e = sym (said c.before) in (
+      search rules,
+      elim c.if-is_bad_literal.branch [
+        | then-is_bad_literal w ↦ w.n-is ∙ count_found _ l.k l.invariant.1 (e ∙ w.if-is_bad_literal.true)
+        | else-is_bad_literal w ↦ w.n-is ∙ count_pass _ l.k l.invariant.1 (e ∙ w.if-is_bad_literal.false)
+      ],
+    )
 
 pub returns : goal.returns
 returns c = let l = c.loop-k in let q : l.k ≡ length c.args.literals.now = omega arith in rw (← q) l.invariant.1

@@ -1,8 +1,7 @@
 -- `model_values::one_value` meets its contract: before turn j, n counts the true values below j and `value` is the last of them.
 -- Assumes nothing.
 use mathlib.Core.Path.{◌≡◌, sym, ◌∙◌}
-use mathlib.Core.Logic.{⊎_elim}
-use Prim.Native.Nat.{◌+◌, ◌-◌}
+use Prim.Native.Nat.{◌+◌}
 use native.Mathlib.Omega.{arith}
 use borrow.Author.Rules.{rules}
 use borrow.Author.Tests.{eq-eqb, ne_eqb}
@@ -22,8 +21,8 @@ again : (c : At-Joined-marks-before-eq1) → let l = c.before.before.before in l
 again c =
     let l = c.loop-j in
     elim c.if-marks-before-eq1.branch [
-      then-marks-before-eq1 w ↦ (w.n-is ∙ count_found _ _ l.invariant.1 (eq-eqb _ _ w.if-marks-before-eq1.true), w.value-is ∙ last_found _ _ (eq-eqb _ _ w.if-marks-before-eq1.true))
-    | else-marks-before-eq1 w ↦ (w.n-is ∙ count_pass _ _ l.invariant.1 (ne_eqb _ _ w.if-marks-before-eq1.false), w.value-is ∙ last_pass _ _ l.invariant.2 (ne_eqb _ _ w.if-marks-before-eq1.false))
+      | then-marks-before-eq1 w ↦ (w.n-is ∙ count_found _ _ l.invariant.1 (eq-eqb _ _ w.if-marks-before-eq1.true), w.value-is ∙ last_found _ _ (eq-eqb _ _ w.if-marks-before-eq1.true))
+      | else-marks-before-eq1 w ↦ (w.n-is ∙ count_pass _ _ l.invariant.1 (ne_eqb _ _ w.if-marks-before-eq1.false), w.value-is ∙ last_pass _ _ l.invariant.2 (ne_eqb _ _ w.if-marks-before-eq1.false))
     ]
 
 pub loop-j-init : goal.loop-j-init

@@ -1,6 +1,5 @@
 -- `name_reader::count_values` meets its contract: n counts those below j. Assumes nothing.
 use mathlib.Core.Path.{◌≡◌, sym, ◌∙◌, ap}
-use Prim.Native.Nat.{◌-◌}
 use native.Mathlib.Omega.{arith}
 use lib.ListN.{length}
 use borrow.Author.Rules.{rules}
@@ -32,11 +31,13 @@ overflow_add-n c = let l = c.before.before.before.before in omega (arith, l.loop
 pub loop-j-preserved : goal.loop-j-preserved
 loop-j-preserved c =
     let l = c.loop-j in
-    let e = sym (said c.before) in
-    (search rules, elim c.if-names_value.branch [
-      then-names_value w ↦ w.n-is ∙ count_found _ l.j l.invariant.1 (e ∙ w.if-names_value.true)
-    | else-names_value w ↦ w.n-is ∙ count_pass _ l.j l.invariant.1 (e ∙ w.if-names_value.false)
-    ])
+    let e = sym (said c.before) in (
+      search rules,
+      elim c.if-names_value.branch [
+        | then-names_value w ↦ w.n-is ∙ count_found _ l.j l.invariant.1 (e ∙ w.if-names_value.true)
+        | else-names_value w ↦ w.n-is ∙ count_pass _ l.j l.invariant.1 (e ∙ w.if-names_value.false)
+      ],
+    )
 
 pub returns : goal.returns
 returns c = let l = c.loop-j in let q : l.j ≡ length c.args.block.now = omega arith in rw (← q) l.invariant.1

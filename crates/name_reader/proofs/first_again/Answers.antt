@@ -1,7 +1,6 @@
 -- `name_reader::first_again` meets its contract: before the block at k no literal below k names a value variable again, and the
 -- marks are what those literals say. Assumes nothing.
 use mathlib.Core.Path.{◌≡◌, refl, sym, ◌∙◌}
-use Prim.Native.Nat.{◌-◌}
 use native.Mathlib.Omega.{arith}
 use lib.ListN.{length}
 use Rattle.lists.proofs.FirstLaws.{start, done, found_least, least_found, found_one}

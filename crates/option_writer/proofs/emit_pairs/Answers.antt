@@ -1,5 +1,4 @@
 -- `option_writer::emit_pairs` meets its contract: before turn i, the first i rows stand there. Assumes nothing.
-use Prim.Native.Nat.{◌-◌}
 use native.Mathlib.Omega.{arith}
 use Rattle.lists.proofs.BufferLaws.{kept, begin, turn, room, finish}
 use Rattle.cnf.specs.Clause.{words}

@@ -1,5 +1,5 @@
 -- `option_writer::emit_pairs_after` meets its contract: before turn t, the first t pairs stand there. Assumes nothing.
-use Prim.Native.Nat.{◌≤◌, ◌<◌, ◌+◌, ◌-◌, ◌^◌}
+use Prim.Native.Nat.{◌≤◌, ◌<◌, ◌+◌, ◌^◌}
 use native.Mathlib.Omega.{arith}
 use lib.ListN.{length, length-set}
 use Rattle.lists.proofs.BufferLaws.{kept, begin, turn, room, finish, wrote_as}
