@@ -14,7 +14,7 @@ use borrow.Author.Tests.{le-ltb, ltb-false, ne_eqb}
 use Rattle.lists.specs.Signed.{is_zero, beyond}
 use Rattle.lists.proofs.UptoLaws.{decide}
 use Rattle.decimal.specs.Digits.{is_digit, is_decimal, all_digits, plain}
-use Rattle.decimal.specs.Reading.{run, reading_at, positive_at}
+use Rattle.decimal.specs.Reading.{reading_at, positive_at}
 use Rattle.decimal.specs.declared.Reading.{Reading}
 use Rattle.decimal.proofs.RunLaws.{run_stop}
 use Rattle.decimal.proofs.PositiveLaws.{positive_good, positive_is, positive_plain}

@@ -1,6 +1,5 @@
 -- `second_words::pair_first` is safe and ends: the measure is how many turns of the loop are left. Nothing has to
 -- hold from turn to turn. Assumes nothing.
-use Prim.Native.Nat.{◌-◌}
 use Rattle.second_words.proofs.pair_first.Goals as goal
 
 pub loop-a-init : goal.loop-a-init

@@ -1,6 +1,5 @@
 -- `second_words::values_before` is safe and ends: the measure is how many turns of the loop are left. Nothing has
 -- to hold from turn to turn. Assumes nothing.
-use Prim.Native.Nat.{◌-◌}
 use Rattle.second_words.proofs.values_before.Goals as goal
 
 pub loop-k-init : goal.loop-k-init

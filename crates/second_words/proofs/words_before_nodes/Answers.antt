@@ -1,6 +1,5 @@
 -- `second_words::words_before_nodes` is safe and ends: the measure is how many turns of the loop are left. Nothing
 -- has to hold from turn to turn. Assumes nothing.
-use Prim.Native.Nat.{◌-◌}
 use Rattle.second_words.proofs.words_before_nodes.Goals as goal
 
 pub loop-i-init : goal.loop-i-init

@@ -1,7 +1,7 @@
 -- `sizes::pair_count` meets its contract: n is the pairs of the options below i, cut. Assumes nothing.
 use mathlib.Core.List.{List}
 use mathlib.Core.Path.{◌≡◌}
-use Prim.Native.Nat.{ℕ, ◌-◌}
+use Prim.Native.Nat.{ℕ}
 use native.Mathlib.Omega.{arith}
 use lib.ListN.{length, get_or}
 use Rattle.lists.proofs.UptoLaws.{sum_none, sum_more}

@@ -1,7 +1,6 @@
 -- `soundness::value_count` meets its contract: n is the sum of the domains below i. Assumes nothing.
 use mathlib.Core.Path.{◌≡◌, sym}
 use mathlib.Core.List.{[]}
-use Prim.Native.Nat.{◌-◌}
 use native.Mathlib.Omega.{arith}
 use lib.ListN.{length}
 use borrow.Author.Rules.{rules}

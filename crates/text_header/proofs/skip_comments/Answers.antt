@@ -1,5 +1,4 @@
 -- `text_header::skip_comments` meets its contract: before each turn the comment lines are passed up to i. Assumes nothing.
-use Prim.Native.Nat.{◌-◌}
 use Rattle.text_header.proofs.CommentLaws.{skipping_none, skipping_on, skipping_new, skipping_stop, skipping_all}
 use Rattle.text_header.proofs.skip_comments.Goals as goal
 

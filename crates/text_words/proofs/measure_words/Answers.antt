@@ -2,7 +2,6 @@
 -- nothing.
 use mathlib.Core.Path.{◌≡◌, sym, ◌∙◌, ap}
 use native.Mathlib.Omega.{arith}
-use borrow.Author.Rules.{rules}
 use Rattle.refusal.specs.Rules.{refusal, chain}
 use Rattle.refusal.specs.declared.Verdict.TheVariants.{Passed}
 use Rattle.cnf.specs.Lent.{LimitsKept, word_rules, WellWords}

@@ -1,5 +1,4 @@
 -- `text_words::survey_words` meets its contract: the words below k are surveyed. Assumes nothing.
-use Prim.Native.Nat.{◌-◌}
 use native.Mathlib.Omega.{arith}
 use mir.Syntax.{w32}
 use mir.Val.{SFits}

@@ -1,7 +1,7 @@
 -- `text_writer::put_words` meets its contract: before turn k the text of the first k words stands there. Assumes nothing.
 use mathlib.Core.List.{List}
 use mathlib.Core.Path.{ap}
-use Prim.Native.Nat.{ℕ, ◌-◌}
+use Prim.Native.Nat.{ℕ}
 use native.Mathlib.Omega.{arith}
 use mir.Syntax.{w32}
 use mir.Val.{SFits}

@@ -1,6 +1,5 @@
 -- `word_check::first_beyond` meets its contract: no word below k is beyond V. Assumes nothing.
 use mathlib.Core.Path.{◌≡◌, sym, ◌∙◌, ap}
-use Prim.Native.Nat.{◌-◌}
 use native.Mathlib.Omega.{arith}
 use borrow.Author.Rules.{rules}
 use mir.Syntax.{w32}

@@ -1,6 +1,5 @@
 -- `second::builds::first_bad_value` is safe and ends: the measure is how many turns of the loop are left.
 -- Nothing has to hold from turn to turn. Assumes nothing.
-use Prim.Native.Nat.{◌-◌}
 use Rattle.second.proofs.builds.first_bad_value.Goals as goal
 
 pub loop-i-init : goal.loop-i-init

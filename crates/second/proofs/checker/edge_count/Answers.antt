@@ -1,6 +1,5 @@
 -- `second::checker::edge_count` is safe and ends: the measure is how many turns of the loop are left. Nothing
 -- has to hold from turn to turn. Assumes nothing.
-use Prim.Native.Nat.{◌-◌}
 use Rattle.second.proofs.checker.edge_count.Goals as goal
 
 pub loop-v-init : goal.loop-v-init

@@ -1,6 +1,5 @@
 -- `second::checker::first_bad_target` is safe and ends: the measure is how many turns of the loop are left.
 -- Nothing has to hold from turn to turn. Assumes nothing.
-use Prim.Native.Nat.{◌-◌}
 use Rattle.second.proofs.checker.first_bad_target.Goals as goal
 
 pub loop-e-init : goal.loop-e-init
