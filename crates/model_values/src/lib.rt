@@ -14,6 +14,7 @@ use lists::Found;
 use refusal::{Refusal, Verdict};
 
 // The value of an option that has exactly one true, where `before` values stand before its own.
+#[tactic(auto, using(crate::proofs::OneLaws::counted_true, crate::proofs::OneLaws::counted_other, crate::proofs::OneLaws::last_true, crate::proofs::OneLaws::last_other))]
 fn one_value(marks: &[u8], before: usize, count: usize) -> Found
     requires { before + count ≤ length marks.now }
     ensures { result ≡ sole (λ (j : ℕ). marked_true marks.now (before + j)) count }
