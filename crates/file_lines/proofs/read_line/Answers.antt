@@ -49,7 +49,7 @@ formed c =
     let f = e.before in
     let r = f.before in
     let h = r.before.before in
-    all_there (text h) (key h) (at h) (begins r.before) (sym (field f) ∙ e.if-not-is_field.false) (omega (arith, c.if-read-gt4294967295.false, ap (λ (q : Reading). q.value) r.read-read.ensures))
+    all_there (text h) (key h) (at h) (begins r.before) (sym (field f) ∙ e.if-not-is_field.false) (omega (arith, ap (λ (q : Reading). q.value) r.read-read.ensures))
 
 pub returns-then-not-has : goal.returns-then-not-has
 returns-then-not-has c = let h = c.before.before.before in none_read (text h) (key h) (at h) c.no_line.ensures (no_key (text h) (key h) (at h) (sym h.has.ensures ∙ c.if-not-has.true))

@@ -3,6 +3,7 @@ use mathlib.Core.Path.{◌≡◌, sym, ◌∙◌}
 use mathlib.Core.Bool.{false}
 use Prim.Native.Nat.{◌<◌, ◌^◌}
 use native.Mathlib.Omega.{arith}
+use borrow.Author.Rules.{rules}
 use borrow.Author.Tests.{eq-eqb, ne_eqb}
 use mir.Syntax.{w32}
 use mir.ValLaws.{to_z-of_z}
@@ -19,7 +20,7 @@ abbrev At-Else-literal-eq0 : Type 0
 At-Else-literal-eq0 = Lts.Else1 Reads.Pre Reads.Post
 
 not_zero : (c : At-Else-literal-eq0) → is_zero c.args.literal ≡ false
-not_zero c = sym (zero_is _ c.ranges.literal) ∙ ne_eqb _ _ c.if-literal-eq0.false
+not_zero c = sym (zero_is _ c.ranges.literal) ∙ ne_eqb _ _ (search rules)
 
 small : (s : At-Start) → s.args.last < 2 ^ 31
 small s = omega (arith, s.requires)

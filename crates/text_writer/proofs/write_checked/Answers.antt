@@ -33,7 +33,7 @@ start c = c.before.before
 
 -- the whole text fits
 fits : (c : At-Else-out-need) → let s = start c in 0 + length (line s ++ rest s) ≤ length s.args.out.now
-fits c = let s = start c in omega (arith, ap length (parts s), s.requires.2, c.if-out-need.false)
+fits c = let s = start c in omega (arith, ap length (parts s), s.requires.2)
 
 pub returns-then-out-need : goal.returns-then-out-need
 returns-then-out-need c = rw c.refused.ensures (write_short _ _ _ c.requires.0 c.requires.2 c.if-out-need.true)
@@ -48,4 +48,4 @@ pub returns : goal.returns
 returns c =
     let s = start c.before.before.before.before.before.before.before.before.before in
     let w = wrote_as (then c.put_header-from.ensures c.put_words-end.ensures) (parts s) in
-    write_done _ _ _ s.requires.0 (omega (arith, s.requires.2, c.if-out-need.false)) (omega (arith, w.next)) (written (omega (arith, s.requires.2, c.if-out-need.false)) w)
+    write_done _ _ _ s.requires.0 (omega (arith, s.requires.2)) (omega (arith, w.next)) (written (omega (arith, s.requires.2)) w)
