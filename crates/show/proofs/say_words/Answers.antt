@@ -10,7 +10,7 @@ pub loop-k-preserved : goal.loop-k-preserved
 loop-k-preserved g c =
     let words = c.args.words.now in
     let same : to_z w32 (of_z w32 (slice_index_or words c.loop-k.k (pos 0))) ≡ slice_index_or words c.loop-k.k (pos 0) = search rules in
-    let joined = stretch_more words c.args.from c.loop-k.k c.loop-k.auto.k c.if-words-k.false in
+    let joined = stretch_more word_shown (pos 0) words c.args.from c.loop-k.k c.loop-k.auto.k c.if-words-k.false in
     (search rules, subst (Appends _ _) (ap (λ z. words_shown (slice_range words c.args.from c.loop-k.k) ++ word_shown z) same ∙ sym joined) (Appends-trans _ _ _ _ _ c.loop-k.invariant.1 c.in_ok-say_word.ensures))
 
 pub returns : goal.returns
