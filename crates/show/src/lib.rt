@@ -1,7 +1,6 @@
 // Printing for the programs that run samples and cases: fixed bytes, numbers, words, bytes as a person reads them, and what a
 // reading of clause text gives. Each function writes to the writer that it is lent, and gives the error of a writing that fails.
-// Its functions are proved to be safe and to end; of fixed bytes, numbers and words a contract says what is written, where the
-// writer's bytes are known. Assumes nothing.
+// Each promises what it writes, where the writer's bytes are known and no writing fails. Assumes nothing.
 #![tactic(auto)]
 
 ghost use Rattle.std.specs.Prelude.{◌≡◌, ◌≤◌, [], ◌∷◌, ◌++◌, length, take, min, slice_range, IfOk, OnOk, ◌⊎◌};
