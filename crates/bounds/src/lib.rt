@@ -6,5 +6,5 @@ ghost use Rattle.std.specs.Prelude.{◌≡◌, min};
 pub fn at_most(most: u32, n: u32) -> u32
     ensures { result ≡ min most n }
 {
-    if most < n { most } else { n }
+    n.min(most)
 }

@@ -9,22 +9,20 @@ ghost use Rattle.judge.specs.Build.{bad_value, build_rules};
 ghost use Rattle.judge.specs.Promise.{answer_of};
 
 use judge::{JudgeAnswer, Judged};
-use lists::Found;
 use refusal::{Refusal, Verdict};
 
 // The first option whose value is none of its domain.
-fn first_bad_value(domains: &[u32], build: &[u32]) -> Found
+#[tactic(auto, using(lists::proofs::FirstLaws::start, lists::proofs::FirstLaws::stop, lists::proofs::FirstLaws::pass))]
+fn first_bad_value(domains: &[u32], build: &[u32]) -> Option<usize>
     requires { length build.now ≡ length domains.now }
     ensures { result ≡ first (bad_value (lent domains.now [] []) build.now) (length domains.now) }
 {
-    let mut i = 0;
-    while i < domains.len() {
-        if domains[i] <= build[i] {
-            return Found::At(i);
+    for (i, domain) in domains.iter().enumerate() {
+        if *domain <= build[i] {
+            return Some(i);
         }
-        i += 1;
     }
-    Found::Nothing
+    None
 }
 
 // Each number in its order: the build's length, and then its values.
@@ -32,7 +30,7 @@ pub fn check_build(domains: &[u32], build: &[u32]) -> Verdict
     ensures { result ≡ chain (build_rules (lent domains.now [] []) build.now) }
 {
     if build.len() != domains.len() {
-        return refusal::verdict_of(Refusal::BUILD_LENGTH, Found::At(0));
+        return refusal::verdict_of(Refusal::BUILD_LENGTH, Some(0));
     }
     refusal::verdict_of(Refusal::BUILD_VALUE, first_bad_value(domains, build))
 }
@@ -41,13 +39,11 @@ pub fn check_build(domains: &[u32], build: &[u32]) -> Verdict
 pub fn answer_of(allowed: bool) -> JudgeAnswer
     ensures { result ≡ answer_of allowed }
 {
-    if allowed {
-        JudgeAnswer {
-            outcome: Judged::Allowed,
-        }
-    } else {
-        JudgeAnswer {
-            outcome: Judged::NotAllowed,
-        }
+    JudgeAnswer {
+        outcome: if allowed {
+            Judged::Allowed
+        } else {
+            Judged::NotAllowed
+        },
     }
 }

@@ -1,14 +1,13 @@
 -- How a call through the C interface answers: not at all, where the answer is too short, or what the library said. Assumes
 -- nothing.
+use Rattle.std.specs.Prelude.{Ok, Err}
 use mathlib.Core.Path.{◌≡◌, refl, sym, ◌∙◌, ap}
 use mathlib.Core.List.{List, []}
 use Prim.Native.Nat.{ℕ, ◌≤◌, ◌<◌}
 use lib.ListN.{length}
-use Rattle.refusal.specs.Rules.{Rule, chain}
+use Rattle.refusal.specs.Rules.{Verdict, Rule, chain}
 use Rattle.refusal.specs.Said.{Said, saying}
 use Rattle.refusal.specs.Answered.{AnsweredBy}
-use Rattle.refusal.specs.declared.Verdict.{Verdict}
-use Rattle.refusal.specs.declared.Verdict.TheVariants.{Passed, Refused}
 use Rattle.diagram.specs.Lent.{Lent}
 use Rattle.diagram.specs.Rules.{check_rules}
 use Rattle.diagram.specs.Promise.{counts_said, counts_of, check_said, CheckPromise}
@@ -29,8 +28,8 @@ module _ {B : Type 0} {rules : List Rule} {values : List ℕ} {written before : 
 -- ---- `check`, whose counts are not given
 
 silent_saying : (w : Verdict) (values : List ℕ) → silent (saying w values) ≡ saying w []
-silent_saying Passed values = refl
-silent_saying (Refused r) values = refl
+silent_saying (Ok tt) values = refl
+silent_saying (Err r) values = refl
 
 -- what is to be said, where `check` answered a
 pub check_said_lem : {d : Lent} {a : CheckAnswer} → CheckPromise d a → silent (check_said a.outcome) ≡ saying (chain (check_rules d)) []

@@ -4,9 +4,13 @@
 ghost use Rattle.diagram.specs.Lent.{lent};
 ghost use Rattle.calls.specs.Promise.{CheckCall, JudgeCall, EncodeCall, ModelCall, WriteCall, ReadCall};
 
+use diagram::Lists;
+
 // An answer that is shorter has no room for what is said.
+// Stays: the test begins each of the six, which are the C interface, so that what else is lent is kept.
 const ENTRIES: usize = entries::ENTRIES;
 
+// Stays: the C interface lends each list by itself.
 #[unsafe(no_mangle)]
 pub extern "C" fn bb_check(domains: &[u32], layers: &[u32], targets: &[u32], answer: &mut [u64])
     ensures { CheckCall (lent domains.now layers.now targets.now) answer.old answer.new }
@@ -14,8 +18,12 @@ pub extern "C" fn bb_check(domains: &[u32], layers: &[u32], targets: &[u32], ans
     if answer.len() < ENTRIES {
         return;
     }
-    let checked = soundness::check(domains, layers, targets);
-    diagram_answers::post_check(answer, checked);
+    let checked = soundness::check(Lists {
+        domains,
+        layers,
+        targets,
+    });
+    entries::post(answer, checked);
 }
 
 #[unsafe(no_mangle)]
@@ -31,8 +39,15 @@ pub extern "C" fn bb_encode(
     if answer.len() < ENTRIES {
         return;
     }
-    let encoded = encoder::encode(domains, layers, targets, out);
-    diagram_answers::post_encode(answer, encoded);
+    let encoded = encoder::encode(
+        Lists {
+            domains,
+            layers,
+            targets,
+        },
+        out,
+    );
+    entries::post(answer, encoded);
 }
 
 #[unsafe(no_mangle)]
@@ -48,8 +63,15 @@ pub extern "C" fn bb_judge(
     if answer.len() < ENTRIES {
         return;
     }
-    let judged = build_judge::judge(domains, layers, targets, build);
-    diagram_answers::post_judge(answer, judged);
+    let judged = build_judge::judge(
+        Lists {
+            domains,
+            layers,
+            targets,
+        },
+        build,
+    );
+    entries::post(answer, judged);
 }
 
 #[unsafe(no_mangle)]
@@ -66,8 +88,16 @@ pub extern "C" fn bb_model(
     if answer.len() < ENTRIES {
         return;
     }
-    let read = model_reader::read_model(domains, layers, targets, literals, out);
-    diagram_answers::post_model(answer, read);
+    let read = model_reader::read_model(
+        Lists {
+            domains,
+            layers,
+            targets,
+        },
+        literals,
+        out,
+    );
+    entries::post(answer, read);
 }
 
 #[unsafe(no_mangle)]
@@ -78,7 +108,7 @@ pub extern "C" fn bb_text_write(v: u32, words: &[i32], out: &mut [u8], answer: &
         return;
     }
     let written = text_writer::write_text(v, words, out);
-    text_answers::post_write(answer, written);
+    entries::post(answer, written);
 }
 
 #[unsafe(no_mangle)]
@@ -89,5 +119,5 @@ pub extern "C" fn bb_text_read(text: &[u8], out: &mut [i32], answer: &mut [u64])
         return;
     }
     let read = text_reader::read_text(text, out);
-    text_answers::post_read(answer, read);
+    entries::post(answer, read);
 }

@@ -1,4 +1,5 @@
 -- How a function that writes a list of clauses comes to its answer, and what its answer tells. Assumes nothing.
+use Rattle.std.specs.Prelude.{Ok, Err}
 use mathlib.Core.Path.{◌≡◌, refl, ap}
 use mathlib.Core.Logic.{◌↔◌}
 use mathlib.Core.List.{List, [], ◌∷◌, ◌++◌}
@@ -12,7 +13,6 @@ use Rattle.refusal.specs.Rules.{Rule, refusal, room_rule, chain}
 use Rattle.refusal.specs.Said.{result_of}
 use Rattle.refusal.specs.Table.{Row, ExactlyWhen}
 use Rattle.refusal.specs.declared.Refusal.{Refusal}
-use Rattle.refusal.specs.declared.Verdict.TheVariants.{Passed, Refused as Refusing}
 use Rattle.refusal.proofs.TableLaws.{Faithful}
 use Rattle.refusal.proofs.AnsweredLaws.{by_refusal, by_result, first_refuse, goes_on, Told, told}
 use Rattle.refusal.proofs.RoomLaws.{too_short, long_enough}
@@ -26,10 +26,10 @@ module _ (cs : List Clause) (last : ℕ) (before : List ℤ) where
   -- ---- how it comes to its answer: the first rules refuse; or they pass, and the buffer is too short or not
 
   module _ (first later : List Rule) where
-    pub encode_refuses : (r : Refusal) → chain first ≡ Refusing r → EncodedBy (first ++ later) cs last before (record { outcome = Refused r }) before
+    pub encode_refuses : (r : Refusal) → chain first ≡ Err r → EncodedBy (first ++ later) cs last before (record { outcome = Refused r }) before
     encode_refuses r q = first_refuse encoded_said _ _ before first later refl q
 
-    pub encode_goes_on : (answer : EncodeAnswer) (after : List ℤ) → chain first ≡ Passed → EncodedBy later cs last before answer after → EncodedBy (first ++ later) cs last before answer after
+    pub encode_goes_on : (answer : EncodeAnswer) (after : List ℤ) → chain first ≡ Ok tt → EncodedBy later cs last before answer after → EncodedBy (first ++ later) cs last before answer after
     encode_goes_on answer after q j = goes_on encoded_said _ _ before first later q j
 
   pub encode_short : {p : ℕ} → p ≡ length (words cs) → length before < p → EncodedBy (room_rule (length (words cs)) (length before) ∷ []) cs last before (record { outcome = Refused (refusal 7 p) }) before
@@ -53,7 +53,7 @@ module _ (cs : List Clause) (last : ℕ) (before : List ℤ) where
     encoded_keeps = tells.told_keeps
 
     -- "written" is answered with counts exactly when the rules pass and the counts are the list's own
-    pub written_exactly : (t : Tally) → (answer.outcome ≡ Written t) ↔ ((chain rules ≡ Passed) × (t ≡ tally_of cs last))
+    pub written_exactly : (t : Tally) → (answer.outcome ≡ Written t) ↔ ((chain rules ≡ Ok tt) × (t ≡ tally_of cs last))
     written_exactly t =
         let w = tells.told_result (Written t) _ _ refl in
         ((λ q. let p = w.0 q in (p.0, own (encoded_said_once (Written t) (Written (tally_of cs last)) p.1))), (λ p. w.1 (p.0, ap (λ (t : Tally). result_of (tally_said t)) p.1)))

@@ -1,4 +1,5 @@
 -- The rules of a lent word list say what its table says, and they pass exactly when the words are well. Assumes nothing.
+use Rattle.std.specs.Prelude.{None, Ok, Err}
 use mathlib.Core.Path.{◌≡◌, refl, sym, ◌∙◌, ap}
 use mathlib.Core.Bool.{Bool, true, false, ◌||◌, true≢false}
 use mathlib.Core.List.{List, []}
@@ -9,11 +10,9 @@ use lib.IntN.{ℤ}
 use lib.ListN.{length}
 use borrow.Author.Tests.{ltb-true, ltb-false, le-ltb}
 use Rattle.lists.specs.First.{found_if, first, FirstFailing}
-use Rattle.lists.specs.declared.Found.TheVariants.{Nothing}
 use Rattle.lists.proofs.UptoLaws.{both_false}
 use Rattle.lists.proofs.FirstLaws.{Tests, tests_each, tests_at, tests_one, tests_held}
 use Rattle.refusal.specs.Rules.{refusal, chain}
-use Rattle.refusal.specs.declared.Verdict.TheVariants.{Passed, Refused}
 use Rattle.refusal.proofs.RulesLaws.{not_due}
 use Rattle.refusal.proofs.TableLaws.{Faithful}
 use Rattle.cnf.specs.Words.{zeros, closed}
@@ -59,28 +58,28 @@ module _ (v : ℕ) (ws : List ℤ) where
   word_faithful = (refl, tests_limits.at, λ _. (refl, tests_words.at, λ _. (refl, (tests_held (length ws) (closed ws)).at, λ _. tt)))
 
   -- number 16 is due, and comes first
-  pub over_limits : (LimitsKept v ws → ⊥) → chain (word_rules v ws) ≡ Refused (refusal 16 0)
+  pub over_limits : (LimitsKept v ws → ⊥) → chain (word_rules v ws) ≡ Err (refusal 16 0)
   unfolding word_rules counted_rules chain
   over_limits h = rw ((tests_limits.at 0).1 (refl, h))
 
-  pub words_well : chain (word_rules v ws) ≡ Passed → WellWords v ws
+  pub words_well : chain (word_rules v ws) ≡ Ok tt → WellWords v ws
   unfolding word_rules counted_rules literal_rules
   words_well q =
       let q₁₆ = not_due 16 _ _ q in
       let q₁₄ = not_due 14 _ _ q₁₆.1 in
       record { limits = tests_limits.none.0 q₁₆.0; in_range = tests_words.none.0 q₁₄.0; ends = (tests_held (length ws) (closed ws)).none.0 (not_due 15 _ [] q₁₄.1).0 }
 
-  pub well_words : WellWords v ws → chain (word_rules v ws) ≡ Passed
+  pub well_words : WellWords v ws → chain (word_rules v ws) ≡ Ok tt
   unfolding word_rules counted_rules literal_rules chain
   well_words w = rw (tests_limits.none.1 w.limits, tests_words.none.1 w.in_range, w.ends)
 
   -- ---- the same rules as one pass comes to them: by a count of the zeros, and with a search for a literal beyond v only
   -- where there is one
 
-  pub counted_rules_lem : (clauses : ℕ) (some : Bool) → clauses ≡ zeros ws → (some ≡ false → first (beyond_at v ws) (length ws) ≡ Nothing) → counted_rules v ws clauses some ≡ word_rules v ws
+  pub counted_rules_lem : (clauses : ℕ) (some : Bool) → clauses ≡ zeros ws → (some ≡ false → first (beyond_at v ws) (length ws) ≡ None) → counted_rules v ws clauses some ≡ word_rules v ws
   unfolding word_rules counted_rules literal_rules
   counted_rules_lem clauses true e none = rw e
   counted_rules_lem clauses false e none = rw (e, none refl)
 
-  pub counted : (clauses : ℕ) (some : Bool) → clauses ≡ zeros ws → (some ≡ false → first (beyond_at v ws) (length ws) ≡ Nothing) → chain (counted_rules v ws clauses some) ≡ chain (word_rules v ws)
+  pub counted : (clauses : ℕ) (some : Bool) → clauses ≡ zeros ws → (some ≡ false → first (beyond_at v ws) (length ws) ≡ None) → chain (counted_rules v ws clauses some) ≡ chain (word_rules v ws)
   counted clauses some e none = ap chain (counted_rules_lem clauses some e none)

@@ -1,9 +1,8 @@
 -- A lent word list, for variables up to v: what is refused of it, numbers 16, 14 and 15, as a table and as rules that
 -- compute. Words count from 0. Assumes nothing.
-use Rattle.std.specs.Prelude.{◌≡◌, Bool, true, not, cond, ◌||◌, List, [], ◌∷◌, ℕ, ◌≤◌, ◌<◌, ltb, ℤ, pos, nat_abs, length, get_or}
+use Rattle.std.specs.Prelude.{◌≡◌, Bool, true, not, cond, ◌||◌, List, [], ◌∷◌, ℕ, ◌≤◌, ◌<◌, ltb, ℤ, pos, nat_abs, length, get_or, None}
 use Rattle.lists.specs.First.{found_if, first, FirstFailing}
 use Rattle.lists.specs.Signed.{beyond}
-use Rattle.lists.specs.declared.Found.TheVariants.{Nothing}
 use Rattle.refusal.specs.Rules.{Rule, rule}
 use Rattle.refusal.specs.Table.{Row, row}
 use Rattle.cnf.specs.Words.{zeros, closed}
@@ -53,7 +52,7 @@ beyond_at v ws k = beyond v (word ws k)
 -- 14 and 15, where `some` says whether a literal is beyond v
 unfoldable pub literal_rules : ℕ → List ℤ → Bool → List Rule
 literal_rules v ws some =
-    rule 14 (cond some (first (beyond_at v ws) (length ws)) Nothing)
+    rule 14 (cond some (first (beyond_at v ws) (length ws)) None)
     ∷ rule 15 (found_if (not (closed ws)) (length ws))
     ∷ []
 

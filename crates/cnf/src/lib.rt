@@ -13,6 +13,7 @@ pub struct Tally {
     pub variables: u32,
 }
 
+// Stays: a project rule: an answer is an enum whose refusal case holds number and place, and a struct holds that.
 #[derive(Clone, Copy)]
 pub enum Encoded {
     Written(Tally),

@@ -1,13 +1,16 @@
 -- Laws of bytes at a place of a text, and of bytes put into a lent buffer. Assumes nothing.
 use mathlib.Core.Path.{◌≡◌, refl, sym, ap, ◌∙◌}
 use mathlib.Core.Bool.{Bool, true, false, cond, and-eq-true_iff, false≢true}
-use mathlib.Core.List.{List, [], ◌∷◌, ◌++◌}
-use Prim.Native.Nat.{ℕ, ◌+◌, ◌≤◌, ◌<◌}
+use mathlib.Core.List.{List, [], ◌∷◌, ◌++◌, append_assoc}
+use Prim.Native.Nat.{ℕ, ◌+◌, ◌-◌, ◌≤◌, ◌<◌}
 use native.Mathlib.Omega.{arith}
 use lib.Dec.{leb, eqb}
-use lib.ListN.{length, drop, length-append, length-drop}
-use lib.Seq.{sets, length-sets}
+use lib.ListN.{length, take, drop, length-append, length-drop}
+use lib.Seq.{sets, length-sets, sets-eq, drop-drop}
 use borrow.Author.Tests.{eqb-true, eq-eqb, le-leb, lt-leb}
+use borrow.Rule.Slice.PartMut.{put_mid}
+use Rattle.std.specs.List.{slice_range}
+use Rattle.std.proofs.lemmas.List.{take_all}
 use Rattle.lists.specs.Buffer.{Wrote}
 use Rattle.decimal.specs.Bytes.{starts_with, has_at, put_at, PutPromise}
 
@@ -35,6 +38,11 @@ unfolding starts_with
 with_start [] rest = refl
 with_start (k ∷ key) rest = rw (eq-eqb k k refl) (with_start key rest)
 
+-- ---- what is left of a text from `at` on, as code takes it
+
+pub rest_at : (text : List ℕ) (at : ℕ) → slice_range text at (length text) ≡ drop at text
+rest_at text at = take_all (length text - at) (drop at text) (omega (arith, length-drop at text))
+
 -- ---- putting
 
 module _ (bytes : List ℕ) (at : ℕ) (before : List ℕ) where
@@ -47,6 +55,10 @@ module _ (bytes : List ℕ) (at : ℕ) (before : List ℕ) where
 
   pub put_all : at + length bytes ≤ length before → {after : List ℕ} {r : ℕ} → Wrote before at bytes after r → PutPromise bytes at before (length bytes) after
   put_all h w = record { counts = refl; buffer = w.list ∙ sym (put_room h) }
+
+  -- they were written as a part of the buffer
+  pub put_part : {k : ℕ} {part : List ℕ} → k ≡ length bytes → at + length bytes ≤ length before → part ≡ bytes → PutPromise bytes at before (length bytes) (put_mid at k before part)
+  put_part e h p = record { counts = refl; buffer = rw (e, p, drop-drop) (sym (put_room h ∙ sets-eq bytes before at h ∙ append_assoc (take at before) bytes (drop (at + length bytes) before))) }
 
   -- the buffer keeps its length
   pub put_length : {n : ℕ} {after : List ℕ} → PutPromise bytes at before n after → length after ≡ length before

@@ -10,6 +10,7 @@ use native.Mathlib.Decide.{dec_lt}
 use lib.Dec.{leb, ltb, eqb}
 use lib.ListN.{length, length-append, get_or, get_or-append}
 use borrow.Author.Tests.{lt-ltb, le-ltb, le-leb, ne_eqb, leb-true}
+use Rattle.std.specs.Char.{is_ascii_digit}
 use Rattle.lists.specs.Every.{Every}
 use Rattle.lists.proofs.EveryLaws.{every_none, every_more}
 use Rattle.decimal.specs.Digits.{is_digit, all_digits, plain, is_decimal, value_from, value, digits_with, digits}
@@ -98,6 +99,11 @@ value_digits n h = value_with 19 n h
 
 -- ---- digits
 
+-- as std tests it
+pub as_digit : (b : ℕ) → is_digit b ≡ is_ascii_digit b
+unfolding is_digit
+as_digit b = refl
+
 pub digit_range : (b : ℕ) → is_digit b ≡ true → (48 ≤ b) × (b ≤ 57)
 unfolding is_digit
 digit_range b h = let w = (and-eq-true_iff (leb 48 b) (leb b 57)).0 h in (leb-true 48 b w.0, leb-true b 57 w.1)
@@ -157,6 +163,11 @@ first_with (suc f) n p h = go (first_with f (n / 10)) (dec_lt n 10)
         let k = ih (omega arith) (omega (arith, rw (pow-suc) at h)) in
         let e = get_or-append (digits_with f (n / 10)) ((48 + n % 10) ∷ []) 0 0 k.0 in
         rw (with_step f n (omega arith)) (omega (arith, length-append (digits_with f (n / 10)) ((48 + n % 10) ∷ [])))
+
+pub plain_none : (ds : List ℕ) → length ds < 1 → plain ds ≡ false
+unfolding plain
+plain_none [] h = refl
+plain_none (b ∷ bs) h = absurd (omega arith)
 
 pub plain_one : (ds : List ℕ) → length ds ≡ 1 → plain ds ≡ true
 unfolding plain

@@ -1,13 +1,14 @@
 -- Laws of a field of a text: a decimal, and a byte after it that is no digit. Assumes nothing.
-use mathlib.Core.Path.{◌≡◌, sym, ap, ◌∙◌}
-use mathlib.Core.Bool.{true, false, and-eq-true_iff}
+use mathlib.Core.Path.{◌≡◌, refl, sym, ap, ◌∙◌}
+use mathlib.Core.Bool.{Bool, true, false, cond, ◌&&◌}
 use mathlib.Core.List.{List, [], ◌∷◌, ◌++◌}
 use Prim.Native.Nat.{ℕ, ◌+◌, ◌≤◌}
 use lib.ListN.{length, drop}
+use Rattle.std.specs.Prelude.{Option, Some, None}
 use lib.Seq.{drop-drop, drop-append_seam}
 use Rattle.decimal.specs.Digits.{is_digit, is_decimal}
 use Rattle.decimal.specs.Bytes.{starts_with, has_at}
-use Rattle.decimal.specs.Reading.{run, field_at}
+use Rattle.decimal.specs.Reading.{run, digits_at, decimal_at, reading_at, field_at, field_of}
 use Rattle.decimal.specs.declared.Reading.{Reading}
 use Rattle.decimal.proofs.DigitsLaws.{decimal_digits}
 use Rattle.decimal.proofs.RunLaws.{run_before, run_split}
@@ -35,6 +36,39 @@ module _ (text : List ℕ) (at b : ℕ) where
       sym (run_split (drop at text))
       ∙ ap (λ (l : List ℕ). run (drop at text) ++ l) (drop-drop n at text ∙ starts_with_lem (b ∷ []) (drop (at + n) text) h ∙ ap (λ (l : List ℕ). b ∷ l) (drop-drop 1 (at + n) text))
 
--- a field's byte lies inside the text
-pub field_inside : (text : List ℕ) (r : Reading) (b : ℕ) → field_at text r b ≡ true → r.end + 1 ≤ length text
-field_inside text r b e = has_inside text r.end b [] ((and-eq-true_iff r.good _).0 e).1
+-- a field, by its digits and the byte after them
+pub field_splits : (text : List ℕ) (at b : ℕ) → field_at text (reading_at text at) b ≡ (decimal_at text at && has_at text (digits_at text at).end (b ∷ []))
+field_splits text at b = go (decimal_at text at)
+  where
+    go : (t : Bool) → field_at text (cond t (Some (digits_at text at)) None) b ≡ (t && has_at text (digits_at text at).end (b ∷ []))
+    go true = refl
+    go false = refl
+
+-- a field that was read at `at`: its digits are a decimal, and b follows them, inside the text
+pub record Field (text : List ℕ) (at b : ℕ) (read : Reading) : Type 0 where
+  pub stands : field_at text (reading_at text at) b ≡ true
+  pub said : read ≡ digits_at text at
+  pub inside : read.end + 1 ≤ length text
+
+module _ (text : List ℕ) (at b : ℕ) where
+  pub field_found : {q : Option Reading} {read : Reading} → q ≡ reading_at text at → Some read ≡ field_of text q b → Field text at b read
+  field_found {read = read} p e = go (decimal_at text at) (e ∙ ap (λ (q : Option Reading). field_of text q b) p) refl
+    where
+      go : (t : Bool) → Some read ≡ field_of text (cond t (Some (digits_at text at)) None) b → decimal_at text at ≡ t → Field text at b read
+      go true k d = at_byte (has_at text (digits_at text at).end (b ∷ [])) k refl
+        where
+          at_byte : (f : Bool) → Some read ≡ cond f (Some (digits_at text at)) None → has_at text (digits_at text at).end (b ∷ []) ≡ f → Field text at b read
+          at_byte true q f = let s : read ≡ digits_at text at = cc in record { stands = field_splits text at b ∙ rw (d, f); said = s; inside = rw s (has_inside text (digits_at text at).end b [] f) }
+          at_byte false q f = cc
+      go false k d = cc
+
+  pub field_missing : {q : Option Reading} → q ≡ reading_at text at → None ≡ field_of text q b → field_at text (reading_at text at) b ≡ false
+  field_missing p e = go (decimal_at text at) (e ∙ ap (λ (q : Option Reading). field_of text q b) p)
+    where
+      go : (t : Bool) → None ≡ field_of text (cond t (Some (digits_at text at)) None) b → field_at text (cond t (Some (digits_at text at)) None) b ≡ false
+      go true k = at_byte (has_at text (digits_at text at).end (b ∷ [])) k
+        where
+          at_byte : (f : Bool) → None ≡ cond f (Some (digits_at text at)) None → f ≡ false
+          at_byte true q = cc
+          at_byte false q = refl
+      go false k = refl

@@ -1,17 +1,17 @@
 -- Laws of a decimal of a number other than 0: what leads it. Assumes nothing.
-use mathlib.Core.Path.{◌≡◌, refl, sym, ap, ◌∙◌}
+use mathlib.Core.Path.{◌≡◌, refl, sym, ◌∙◌}
 use mathlib.Core.Logic.{◌⊎◌, inl, inr}
-use mathlib.Core.Bool.{Bool, true, false, not, cond, ◌&&◌, and-true, and-false, and-eq-true_iff}
+use mathlib.Core.Bool.{Bool, true, false, not, ◌&&◌, and-true, and-false, and-eq-true_iff}
 use mathlib.Core.List.{List, [], ◌∷◌}
 use Prim.Native.Nat.{ℕ, ◌+◌, ◌-◌, ◌*◌, ◌≤◌, ◌<◌}
 use native.Mathlib.Omega.{arith}
 use lib.Dec.{leb, ltb, eqb}
 use lib.ListN.{length, get_or, drop}
+use Rattle.std.specs.Prelude.{Some, None}
 use borrow.Author.Tests.{lt-ltb, le-leb, leb-true, leb-false, ltb-true, ne_eqb}
 use Rattle.lists.proofs.UptoLaws.{decide, below_or_not}
 use Rattle.decimal.specs.Digits.{is_digit, all_digits, plain, is_decimal, value_from, value}
-use Rattle.decimal.specs.Reading.{run, cut, reading_at, leads_at, positive_at}
-use Rattle.decimal.specs.declared.Reading.{Reading}
+use Rattle.decimal.specs.Reading.{run, cut, digits_at, decimal_at, reading_at, leads_at, is_positive_at, positive_at}
 use Rattle.decimal.proofs.DigitsLaws.{digit_range}
 use Rattle.decimal.proofs.RunLaws.{run_more, run_stop, run_end, run_decimal}
 
@@ -52,7 +52,7 @@ module _ (s : List ℕ) (at : ℕ) where
   pub leads_inside : leads_at s at ≡ true → at < length s
   leads_inside h = ltb-true at (length s) ((and-eq-true_iff (ltb at (length s)) _).0 h).0
 
-  led : leads_at s at ≡ true → ((reading_at s at).good ≡ true) × (eqb (reading_at s at).value 0 ≡ false)
+  led : leads_at s at ≡ true → (decimal_at s at ≡ true) × (eqb (digits_at s at).value 0 ≡ false)
   unfolding is_digit
   led h =
       let w = (and-eq-true_iff (ltb at (length s)) _).0 h in
@@ -62,8 +62,8 @@ module _ (s : List ℕ) (at : ℕ) where
       let r = run_more s at (leads_inside h) d in
       (run_decimal (drop at s) ∙ rw r (led_plain (get_or s at 0) (run (drop (at + 1) s)) l), rw r (led_some (get_or s at 0) (run (drop (at + 1) s)) l))
 
-  pub positive_led : leads_at s at ≡ true → (positive_at s at ≡ reading_at s at) × ((reading_at s at).good ≡ true)
-  positive_led h = let w = led h in (rw (w.0, w.1), w.0)
+  pub positive_led : leads_at s at ≡ true → (positive_at s at ≡ Some (digits_at s at)) × (reading_at s at ≡ Some (digits_at s at))
+  positive_led h = let w = led h in (rw (w.0, w.1), rw w.0)
 
   zero_leads : leads_at s at ≡ false → at < length s → is_digit (get_or s at 0) ≡ true → get_or s at 0 ≡ 48
   zero_leads h l d =
@@ -71,7 +71,7 @@ module _ (s : List ℕ) (at : ℕ) where
       let q : (leb 49 (get_or s at 0) && true) ≡ false = rw (lt-ltb at (length s) l, le-leb (get_or s at 0) 57 w.1) at h in
       omega (arith, w.0, leb-false 49 (get_or s at 0) (sym (and-true (leb 49 (get_or s at 0))) ∙ q))
 
-  pub positive_none : leads_at s at ≡ false → positive_at s at ≡ record { good = false; value = 0; end = at }
+  pub positive_none : leads_at s at ≡ false → positive_at s at ≡ None
   positive_none h = rw (not_positive (below_or_not at (length s)))
     where
       at_byte : at < length s → (t : Bool) → is_digit (get_or s at 0) ≡ t → is_positive (run (drop at s)) ≡ false
@@ -83,30 +83,19 @@ module _ (s : List ℕ) (at : ℕ) where
       not_positive (inl l) = at_byte l (is_digit (get_or s at 0)) refl
       not_positive (inr l) = rw (run_end s at l) nothing_positive
 
--- as a reading of any number: it is the same, where the number is not 0; and that it is not where no 0 leads
+-- where no 0 leads, a decimal's number is other than 0
 module _ (s : List ℕ) (at : ℕ) where
-  pub positive_good : (positive_at s at).good ≡ ((reading_at s at).good && not (eqb (reading_at s at).value 0))
-  positive_good = go (reading_at s at).good (not (eqb (reading_at s at).value 0)) refl
-    where
-      go : (g z : Bool) → (reading_at s at).good ≡ g → (cond (g && z) (reading_at s at) (record { good = false; value = 0; end = at })).good ≡ (g && z)
-      go true true e = e
-      go true false e = refl
-      go false z e = refl
-
-  pub positive_is : (positive_at s at).good ≡ true → positive_at s at ≡ reading_at s at
-  positive_is h = rw (sym positive_good ∙ h)
-
-  pub positive_plain : (get_or s at 0 ≡ 48 → ⊥) → (positive_at s at).good ≡ (reading_at s at).good
+  pub positive_plain : (get_or s at 0 ≡ 48 → ⊥) → is_positive_at s at ≡ decimal_at s at
   positive_plain n = go (decide (leads_at s at))
     where
-      go : (leads_at s at ≡ true) ⊎ (leads_at s at ≡ false) → (positive_at s at).good ≡ (reading_at s at).good
-      go (inl h) = ap (λ (r : Reading). r.good) (positive_led s at h).0
-      go (inr h) = ap (λ (r : Reading). r.good) (positive_none s at h) ∙ sym (not_good (below_or_not at (length s)))
+      go : (leads_at s at ≡ true) ⊎ (leads_at s at ≡ false) → is_positive_at s at ≡ decimal_at s at
+      go (inl h) = let w = led s at h in rw (w.0, w.1)
+      go (inr h) = rw (not_decimal (below_or_not at (length s)))
         where
-          at_byte : at < length s → (t : Bool) → is_digit (get_or s at 0) ≡ t → is_decimal (run (drop at s)) ≡ false
+          at_byte : at < length s → (t : Bool) → is_digit (get_or s at 0) ≡ t → decimal_at s at ≡ false
           at_byte l false d = rw (run_stop s at l d) nothing_decimal
           at_byte l true d = absurd (n (zero_leads s at h l d))
 
-          not_good : (at < length s) ⊎ (length s ≤ at) → is_decimal (run (drop at s)) ≡ false
-          not_good (inl l) = at_byte l (is_digit (get_or s at 0)) refl
-          not_good (inr l) = rw (run_end s at l) nothing_decimal
+          not_decimal : (at < length s) ⊎ (length s ≤ at) → decimal_at s at ≡ false
+          not_decimal (inl l) = at_byte l (is_digit (get_or s at 0)) refl
+          not_decimal (inr l) = rw (run_end s at l) nothing_decimal

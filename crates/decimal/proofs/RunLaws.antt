@@ -1,18 +1,17 @@
 -- Laws of the digits that stand at a place of a text, and of a number that was cut. Assumes nothing.
-use mathlib.Core.Path.{◌≡◌, refl, ap, ◌∙◌}
-use mathlib.Core.Bool.{Bool, true, false, not, cond}
+use mathlib.Core.Path.{◌≡◌, refl, sym, ap, ◌∙◌}
+use mathlib.Core.Bool.{Bool, true, false, cond}
 use mathlib.Core.List.{List, [], ◌∷◌, ◌++◌, append-nil}
 use Prim.Native.Nat.{ℕ, suc, ◌+◌, ◌≤◌, ◌<◌}
-use native.Mathlib.Nat.{add-zero}
 use native.Mathlib.Numerals.{add-one}
 use native.Mathlib.Omega.{arith}
 use lib.Dec.{ltb, eqb}
-use lib.ListN.{length, get_or, drop, length-drop, drop_of_length-le}
-use lib.Seq.{drop-cons, get_or-drop}
+use lib.ListN.{length, get_or, take, drop, length-drop, drop_of_length-le}
+use lib.Seq.{drop-cons, take-append_seam}
 use borrow.Author.Tests.{lt-ltb, le-ltb, eq-eqb, ne_eqb, eqb-true, eqb-false, ltb-true, ltb-false}
 use Rattle.decimal.specs.Digits.{is_digit, all_digits, plain, is_decimal}
 use Rattle.decimal.specs.Reading.{run, cut}
-use Rattle.decimal.proofs.DigitsLaws.{all_more, all_first, plain_many}
+use Rattle.decimal.proofs.DigitsLaws.{all_more, all_first}
 
 -- ---- the run at a place
 
@@ -70,36 +69,13 @@ run_split (b ∷ bs) = go (is_digit b) (run_split bs)
     go true e = ap (λ (l : List ℕ). b ∷ l) e
     go false e = refl
 
--- a run's first digit is the text's
-run_first : (s : List ℕ) → 1 ≤ length (run s) → get_or (run s) 0 0 ≡ get_or s 0 0
-unfolding run
-run_first [] h = refl
-run_first (b ∷ bs) h = go (is_digit b) h
-  where
-    go : (t : Bool) → 1 ≤ length (cond t (b ∷ run bs) []) → get_or (cond t (b ∷ run bs) []) 0 0 ≡ b
-    go true k = refl
-    go false k = omega arith
-
-pub run_first_at : (s : List ℕ) (at : ℕ) → 1 ≤ length (run (drop at s)) → get_or (run (drop at s)) 0 0 ≡ get_or s at 0
-run_first_at s at h = run_first (drop at s) h ∙ get_or-drop at s 0 0 ∙ rw (add-zero at)
+pub take_run : (s : List ℕ) → take (length (run s)) s ≡ run s
+take_run s = ap (take (length (run s))) (sym (run_split s)) ∙ take-append_seam (run s) (drop (length (run s)) s)
 
 -- digits are a decimal where no zero leads
 pub run_decimal : (s : List ℕ) → is_decimal (run s) ≡ plain (run s)
 unfolding is_decimal
 run_decimal s = rw (run_digits s)
-
--- as code tests it: fewer than two digits, or more
-pub good_few : (s : List ℕ) → length (run s) < 2 → is_decimal (run s) ≡ eqb (length (run s)) 1
-unfolding plain
-good_few s h = run_decimal s ∙ few (run s) h
-  where
-    few : (ds : List ℕ) → length ds < 2 → plain ds ≡ eqb (length ds) 1
-    few [] h = refl
-    few (d ∷ []) h = refl
-    few (d ∷ e ∷ ds) h = absurd (omega arith)
-
-pub good_many : (s : List ℕ) (at : ℕ) → 2 ≤ length (run (drop at s)) → is_decimal (run (drop at s)) ≡ not (eqb (get_or s at 0) 48)
-good_many s at h = run_decimal (drop at s) ∙ plain_many (run (drop at s)) h ∙ rw (run_first_at s at (omega arith))
 
 -- ---- the cut
 

@@ -1,14 +1,14 @@
 -- Laws of the width of a decimal: below a power of ten and from there on, and told by comparisons. Assumes nothing.
 use mathlib.Core.Path.{◌≡◌, refl}
 use mathlib.Core.Bool.{Bool, true, false, cond}
-use Prim.Native.Nat.{ℕ, zero, suc, ◌+◌, ◌/◌, ◌^◌, ◌≤◌, ◌<◌, min}
+use Prim.Native.Nat.{ℕ, zero, suc, ◌+◌, ◌*◌, ◌/◌, ◌^◌, ◌≤◌, ◌<◌, min}
 use native.Mathlib.Nat.{pow-suc, one-le-pow}
 use native.Mathlib.Omega.{arith}
 use native.Mathlib.Decide.{dec_lt}
 use lib.Dec.{leb}
 use lib.ListN.{length}
 use borrow.Author.Tests.{leb-true, leb-false}
-use Rattle.decimal.specs.Digits.{digits}
+use Rattle.decimal.specs.Digits.{digits, reached, short_width}
 use Rattle.decimal.proofs.DigitsLaws.{length_small, length_step, length_pos}
 
 -- below 10 ^ f there are at most f digits, and from there on there are more
@@ -27,14 +27,20 @@ length_least (suc f) n h l =
     let p : 1 ≤ 10 ^ f = one-le-pow f 10 (omega arith) in
     omega (arith, length_step n (omega arith) l, length_least f (n / 10) (omega arith) (omega arith))
 
--- comparisons that count digits: none is done, and one more
+pub length_log : (f n : ℕ) → 10 ^ f ≤ n → n < 10 * 10 ^ f → n < 10 ^ 20 → length (digits n) ≡ f + 1
+length_log f n h g l = let m : n < 10 ^ suc f = rw pow-suc (omega arith) in omega (arith, length_least f n h l, length_most f n m l)
+
+-- how many powers of ten a number reaches, as they are compared one after the other: none is, and one more
 module _ (n : ℕ) (h : n < 10 ^ 20) where
-  pub width_one : 1 ≡ min 1 (length (digits n))
+  width_one : 1 ≡ min 1 (length (digits n))
   width_one = omega (arith, length_pos n h)
 
-  pub width_more : (k : ℕ) {s r : ℕ} → s ≡ min (suc k) (length (digits n)) → r ≡ cond (leb (10 ^ suc k) n) 1 0 → s + r ≡ min (suc (suc k)) (length (digits n))
-  width_more k {s} {r} d e = go (leb (10 ^ suc k) n) refl
+  width_more : (k : ℕ) {s : ℕ} → s ≡ min (suc k) (length (digits n)) → s + reached (10 ^ suc k) n ≡ min (suc (suc k)) (length (digits n))
+  width_more k {s} d = go (leb (10 ^ suc k) n) refl
     where
-      go : (t : Bool) → leb (10 ^ suc k) n ≡ t → s + r ≡ min (suc (suc k)) (length (digits n))
-      go true t = let q = rw t at e in omega (arith, length_least (suc k) n (leb-true (10 ^ suc k) n t) h)
-      go false t = let q = rw t at e in omega (arith, length_most k n (leb-false (10 ^ suc k) n t) h)
+      go : (t : Bool) → leb (10 ^ suc k) n ≡ t → s + cond t 1 0 ≡ min (suc (suc k)) (length (digits n))
+      go true t = omega (arith, length_least (suc k) n (leb-true (10 ^ suc k) n t) h)
+      go false t = omega (arith, length_most k n (leb-false (10 ^ suc k) n t) h)
+
+  pub powers_reached : 1 + reached 10 n + reached 100 n + reached 1000 n + reached 10000 n + reached 100000 n + reached 1000000 n ≡ short_width n
+  powers_reached = width_more 5 (width_more 4 (width_more 3 (width_more 2 (width_more 1 (width_more 0 width_one)))))

@@ -2,11 +2,16 @@
 // (specs/) and their laws (proofs/), and the type of what is read. What computes them stands in crates above. Assumes nothing.
 #![tactic(auto)]
 
-// Digits that were read: whether they are a decimal, the number that they say, or 10000000000 where it is more, and the
-// place past the last.
+// A decimal that was read: the number that it says, or 10000000000 where it is more, and the place past its last digit.
 #[derive(Clone, Copy)]
 pub struct Reading {
-    pub good: bool,
     pub value: u64,
     pub end: usize,
+}
+
+// Digits that a text begins with, whether they are a decimal or not: the same number, and how many they are.
+#[derive(Clone, Copy)]
+pub struct Digits {
+    pub value: u64,
+    pub count: usize,
 }

@@ -7,6 +7,8 @@ ghost use Rattle.decimal.specs.Digits.{digits};
 ghost use Rattle.decimal.specs.Bytes.{PutPromise};
 ghost use Rattle.decimal_pairs.specs.Pairs.{pair, four};
 
+// Stays, in all of this file, with a buffer and a place in it, as `write_often` has them: `PutPromise` speaks of these.
+
 // Two digits: their bytes as one number, so that they are stored as one.
 fn put_pair(n: u32, out: &mut [u8], at: usize)
     requires { (n < 100) × (at + 2 ≤ length out.old) }

@@ -2,68 +2,47 @@
 // Assumes nothing.
 #![tactic(auto)]
 
-ghost use Rattle.std.specs.Prelude.{◌≡◌, true, ◌+◌, ◌≤◌, ◌<◌, length};
-ghost use Rattle.decimal.specs.Reading.{leads_at, positive_at};
+ghost use Rattle.std.specs.Prelude.{◌≡◌, ◌+◌, ◌≤◌, ◌<◌, length, IfSome};
+ghost use Rattle.decimal.specs.Digits.{value};
+ghost use Rattle.decimal.specs.Reading.{run, cut, leads_at, positive_at};
 
-use decimal::Reading;
+use decimal::{Digits, Reading};
 
 // Whether a digit other than 0 stands at `at`.
 fn leads(text: &[u8], at: usize) -> bool
     ensures { result ≡ leads_at text.now at }
 {
-    if text.len() <= at {
-        return false;
-    }
-    let b = text[at];
-    if b < 49 {
-        return false;
-    }
-    b <= 57
+    matches!(text.get(at), Some(b'1'..=b'9'))
 }
 
-// The first digits, up to eight, where a digit other than 0 leads and the text has eight bytes more.
-fn eight_at(text: &[u8], at: usize) -> Reading
-    requires { (leads_at text.now at ≡ true) × (at + 8 ≤ length text.now) }
-    ensures { result.end < at + 8 → result ≡ positive_at text.now at }
+// The digits that stand first, where they are fewer than eight.
+fn few_digits(front: &[u8; 8]) -> Option<Digits>
+    ensures { IfSome result (λ d. (d.value ≡ cut (value (run front.now))) × (d.count ≡ length (run front.now)) × (d.count < 8)) }
 {
-    let mut value: u64 = 0;
-    let mut k: usize = 0;
-    while k < 8 {
-        let b = text[at + k];
-        if digit::is_digit(b) {
-            value = value * 10 + (b as u64 - 48);
-            k += 1;
-        } else {
-            return Reading {
-                good: true,
-                value,
-                end: at + k,
-            };
+    let mut value = 0;
+    for (count, b) in front.iter().enumerate() {
+        if !b.is_ascii_digit() {
+            return Some(Digits { value, count });
         }
+        value = value * 10 + u64::from(*b - b'0');
     }
-    Reading {
-        good: true,
-        value,
-        end: at + 8,
-    }
+    None
 }
 
-// The decimal of a number other than 0 that stands in the text at `at`.
-pub fn read_positive(text: &[u8], at: usize) -> Reading
+// The decimal of a number other than 0 that stands in the text from `at` on.
+pub fn read_positive(text: &[u8], at: usize) -> Option<Reading>
     ensures { result ≡ positive_at text.now at }
 {
     if !leads(text, at) {
-        return Reading {
-            good: false,
-            value: 0,
-            end: at,
-        };
+        return None;
     }
-    if 8 <= text.len() - at {
-        let read = eight_at(text, at);
-        if read.end < at + 8 {
-            return read;
-        }
+    if let Some(front) = text[at..].first_chunk()
+        && let Some(few) = few_digits(front)
+    {
+        return Some(Reading {
+            value: few.value,
+            end: at + few.count,
+        });
     }
     decimal_reader::read(text, at)
 }

@@ -1,18 +1,22 @@
 -- Laws of reading digit by digit, with a cut. Assumes nothing.
 use mathlib.Core.Path.{◌≡◌, refl, sym, ap, ◌∙◌}
-use mathlib.Core.Bool.{Bool, true}
+use mathlib.Core.Bool.{Bool, true, false, cond}
 use mathlib.Core.List.{List, [], ◌∷◌}
 use Prim.Native.Nat.{ℕ, ◌+◌, ◌-◌, ◌*◌, ◌≤◌, ◌<◌}
 use native.Mathlib.Omega.{arith}
-use lib.ListN.{length, get_or, drop}
-use Rattle.decimal.specs.Digits.{is_digit, value_from, value}
-use Rattle.decimal.specs.Reading.{run, cut}
-use Rattle.decimal.specs.declared.Reading.{Reading}
-use Rattle.decimal.proofs.RunLaws.{run_more}
+use lib.ListN.{length, get_or, take, drop, length-drop, drop_of_length-le}
+use Rattle.std.specs.Prelude.{Some, None}
+use Rattle.std.specs.Bool.{then_some}
+use Rattle.std.specs.List.{slice_range}
+use Rattle.decimal.specs.Digits.{is_digit, all_digits, plain, is_decimal, value_from, value}
+use Rattle.decimal.specs.Reading.{run, cut, reading_at}
+use Rattle.decimal.proofs.BytesLaws.{rest_at}
+use Rattle.decimal.proofs.RunLaws.{run_more, run_end, length_run, run_decimal, take_run}
 
--- a reading, field by field
-pub reading_same : {g g' : Bool} {v v' e e' : ℕ} → g ≡ g' → v ≡ v' → e ≡ e' → ◌≡◌ {A = Reading} (record { good = g; value = v; end = e }) (record { good = g'; value = v'; end = e' })
-reading_same p q r = rw (p, q, r)
+-- a value where a test holds
+cond_some : {X : Type 0} (b : Bool) (x : X) → then_some b x ≡ cond b (Some x) None
+cond_some true x = refl
+cond_some false x = refl
 
 -- a number that was cut stays cut, whatever digits follow
 cut_from : (v : ℕ) (bs : List ℕ) → cut (value_from (cut v) bs) ≡ cut (value_from v bs)
@@ -22,18 +26,18 @@ cut_from v (b ∷ bs) =
     let e : cut (cut v * 10 + (b - 48)) ≡ cut (v * 10 + (b - 48)) = omega arith in
     sym (cut_from (cut v * 10 + (b - 48)) bs) ∙ ap (λ (k : ℕ). cut (value_from k bs)) e ∙ cut_from (v * 10 + (b - 48)) bs
 
--- the digits from `at` on are read up to i, and say v so far
-pub record Came (s : List ℕ) (at v i : ℕ) : Type 0 where
+-- a text's first i digits are read, and say v
+pub record Came (s : List ℕ) (v i : ℕ) : Type 0 where
   pub small : v ≤ 10000000000
-  pub says : cut (value (run (drop at s))) ≡ cut (value_from v (run (drop i s)))
-  pub ends : at + length (run (drop at s)) ≡ i + length (run (drop i s))
+  pub says : cut (value (run s)) ≡ cut (value_from v (run (drop i s)))
+  pub ends : length (run s) ≡ i + length (run (drop i s))
 
-pub came_none : (s : List ℕ) (at : ℕ) → Came s at 0 at
+pub came_none : (s : List ℕ) → Came s 0 0
 unfolding value
-came_none s at = record { small = omega arith; says = refl; ends = refl }
+came_none s = record { small = omega arith; says = refl; ends = omega arith }
 
-module _ (s : List ℕ) (at v i : ℕ) (k : Came s at v i) where
-  pub came_more : (r : ℕ) → i < length s → is_digit (get_or s i 0) ≡ true → r ≡ cut (v * 10 + (get_or s i 0 - 48)) → Came s at r (i + 1)
+module _ (s : List ℕ) (v i : ℕ) (k : Came s v i) where
+  pub came_more : (r : ℕ) → i < length s → is_digit (get_or s i 0) ≡ true → r ≡ cut (v * 10 + (get_or s i 0 - 48)) → Came s r (i + 1)
   unfolding value_from
   came_more r h d e = record {
     small = omega arith;
@@ -42,6 +46,26 @@ module _ (s : List ℕ) (at v i : ℕ) (k : Came s at v i) where
   }
 
   -- where no digit stands at i, that was all
-  pub came_all : run (drop i s) ≡ [] → (v ≡ cut (value (run (drop at s)))) × (i ≡ at + length (run (drop at s)))
+  pub came_all : run (drop i s) ≡ [] → (v ≡ cut (value (run s))) × (i ≡ length (run s))
   unfolding value_from
   came_all e = let m = k.small in (sym (k.says ∙ rw e (omega arith)), sym (k.ends ∙ rw e (omega arith)))
+
+-- at the text's end, its bytes are all that there are
+pub came_end : (s : List ℕ) (v i : ℕ) → Came s v i → i ≤ length s → length s ≤ i → (v ≡ cut (value (run s))) × (length s ≡ length (run s))
+came_end s v i k l h = let w = came_all s v i k (run_end s i h) in (w.0, omega arith)
+
+-- what is left of a text from `at` on, as code takes it, and the digits that it begins with
+module _ (text : List ℕ) (at : ℕ) (rest : List ℕ) (r : rest ≡ slice_range text at (length text)) (v n : ℕ) (d : (v ≡ cut (value (run rest))) × (n ≡ length (run rest))) where
+  left : rest ≡ drop at text
+  left = r ∙ rest_at text at
+
+  pub end_inside : at ≤ length text → at + n ≤ length text
+  end_inside h = omega (arith, d.1, length_run rest, ap length left, length-drop at text)
+
+  pub read_there : (good : Bool) → good ≡ plain (take n rest) → then_some good (record { value = v; end = at + n }) ≡ reading_at text at
+  read_there good g = cond_some good _ ∙ rw (g, d.0, d.1, take_run, left, run_decimal)
+
+-- past the text's end nothing is read
+pub none_read : (text : List ℕ) (at : ℕ) → length text < at → None ≡ reading_at text at
+unfolding run is_decimal all_digits plain
+none_read text at h = let l : length text ≤ at = omega arith in rw (drop_of_length-le text l)

@@ -1,17 +1,11 @@
 // Reading a decimal at a place of a text. Whatever reads a number in text leans on this. Assumes nothing.
 #![tactic(auto)]
 
-ghost use Rattle.std.specs.Prelude.{◌≡◌, ◌+◌, ◌-◌, ◌*◌, ◌≤◌};
-ghost use Rattle.decimal.specs.Reading.{cut, reading_at};
+ghost use Rattle.std.specs.Prelude.{◌≡◌, ◌+◌, ◌-◌, ◌*◌, ◌≤◌, length};
+ghost use Rattle.decimal.specs.Digits.{plain, value};
+ghost use Rattle.decimal.specs.Reading.{run, cut, reading_at};
 
-use decimal::Reading;
-
-// Digits that were read, whether they are a decimal or not.
-#[derive(Clone, Copy)]
-struct Digits {
-    value: u64,
-    end: usize,
-}
+use decimal::{Digits, Reading};
 
 // One more digit after digits that say `value`.
 fn push(value: u64, digit: u8) -> u64
@@ -21,47 +15,46 @@ fn push(value: u64, digit: u8) -> u64
     if 1000000000 <= value {
         return 10000000000;
     }
-    value * 10 + (digit - 48) as u64
+    value * 10 + u64::from(digit - b'0')
 }
 
-fn digits_at(text: &[u8], at: usize) -> Digits
-    ensures { (result.value ≡ (reading_at text.now at).value) × (result.end ≡ (reading_at text.now at).end) }
+// The digits that a text begins with.
+fn first_digits(text: &[u8]) -> Digits
+    ensures { (result.value ≡ cut (value (run text.now))) × (result.count ≡ length (run text.now)) }
 {
-    let mut value: u64 = 0;
-    let mut i = at;
-    while i < text.len() {
-        let b = text[i];
-        if digit::is_digit(b) {
-            value = push(value, b);
-            i += 1;
-        } else {
-            return Digits { value, end: i };
+    let mut value = 0;
+    for (count, b) in text.iter().enumerate() {
+        if !b.is_ascii_digit() {
+            return Digits { value, count };
         }
+        value = push(value, *b);
     }
-    Digits { value, end: i }
+    Digits {
+        value,
+        count: text.len(),
+    }
 }
 
-// Whether no zero leads the digits from `at` to `end`, of which there is one at least.
-fn is_plain(text: &[u8], at: usize, end: usize) -> bool
-    requires { end ≡ (reading_at text.now at).end }
-    ensures { result ≡ (reading_at text.now at).good }
+// Whether there is a digit, and no zero leads more of them.
+#[tactic(auto, using(decimal::proofs::DigitsLaws::plain_none, decimal::proofs::DigitsLaws::plain_one, decimal::proofs::DigitsLaws::plain_many))]
+fn is_plain(digits: &[u8]) -> bool
+    ensures { result ≡ plain digits.now }
 {
-    let count = end - at;
-    if count < 2 {
-        return count == 1;
+    match digits {
+        [] => false,
+        [_] => true,
+        [first, ..] => *first != b'0',
     }
-    text[at] != 48
 }
 
-// The digits that stand in the text from `at` on.
-pub fn read(text: &[u8], at: usize) -> Reading
+// The decimal that stands in the text from `at` on.
+pub fn read(text: &[u8], at: usize) -> Option<Reading>
     ensures { result ≡ reading_at text.now at }
 {
-    let digits = digits_at(text, at);
-    let end = digits.end;
-    Reading {
-        good: is_plain(text, at, end),
-        value: digits.value,
-        end,
-    }
+    let rest = text.get(at..)?;
+    let Digits { value, count } = first_digits(rest);
+    is_plain(&rest[..count]).then_some(Reading {
+        value,
+        end: at + count,
+    })
 }

@@ -8,13 +8,15 @@ ghost use Rattle.decimal.specs.Digits.{short_width, reached};
 pub fn at_least(n: u32, bound: u32) -> u32
     ensures { (result ≤ 1) × (result ≡ reached bound n) }
 {
-    if bound <= n { 1 } else { 0 }
+    u32::from(bound <= n)
 }
 
 // How many digits the decimal of a number below ten million has; 7 for the others.
+#[tactic(auto, using(decimal::proofs::WriterLaws::powers_reached))]
 pub fn short_width(n: u32) -> u32
     ensures { result ≡ short_width n }
 {
+    // Stays: tried, a count over a table of these powers takes text out from 1.3 to 3.1 times plain Rust, whose bar is 1.3.
     1 + at_least(n, 10)
         + at_least(n, 100)
         + at_least(n, 1000)

@@ -3,46 +3,56 @@ use mathlib.Core.Path.{◌≡◌, sym, ap, ◌∙◌}
 use mathlib.Core.List.{List, [], ◌∷◌, ◌++◌, append-nil}
 use Prim.Native.Nat.{ℕ, ◌+◌, ◌-◌, ◌/◌, ◌%◌, ◌^◌, ◌≤◌, ◌<◌}
 use native.Mathlib.Omega.{arith}
-use lib.ListN.{length, length-append, set}
-use lib.Seq.{append_snoc}
-use Rattle.lists.specs.Buffer.{Wrote}
-use Rattle.lists.proofs.BufferLaws.{none, then_before, wrote_as, wrote_next, kept}
+use native.Mathlib.Decide.{dec_lt}
+use lib.ListN.{length, take, drop, set, drop_of_length-le}
+use lib.Seq.{append_snoc, take_all}
+use Rattle.std.proofs.lemmas.List.{drop-set}
 use Rattle.decimal.specs.Digits.{digits}
-use Rattle.decimal.proofs.DigitsLaws.{digits_small, digits_step, length_small, length_step, length_pos}
+use Rattle.decimal.proofs.DigitsLaws.{digits_small, digits_step, length_small, length_step}
 
--- the digits of n are stored from the last on, down to i; those of m are left
-pub record Storing (l : List ℕ) (at n : ℕ) (l' : List ℕ) (m i : ℕ) : Type 0 where
+-- the digits of n past the first i are stored, and these are those of m
+pub record Storing (n : ℕ) (part : List ℕ) (m i : ℕ) : Type 0 where
   pub less : m ≤ n
-  pub place : i ≡ at + length (digits m)
-  pub stored : List ℕ
-  pub parts : digits n ≡ digits m ++ stored
-  pub wrote : Wrote l i stored l' (at + length (digits n))
+  pub count : 0 < i → length (digits m) ≡ i
+  pub parts : digits n ≡ take i (digits m) ++ drop i part
 
-pub storing_none : (l : List ℕ) (at n i : ℕ) → i ≡ at + length (digits n) → Storing l at n l n i
-storing_none l at n i e = record {
-  less = omega arith;
-  place = e;
-  stored = [];
-  parts = sym (append-nil (digits n));
-  wrote = wrote_next (none l i) e;
-}
+pub storing_none : (n : ℕ) (part : List ℕ) → length part ≡ length (digits n) → Storing n part n (length part)
+storing_none n part e =
+    let all : take (length part) (digits n) ≡ digits n = take_all (length part) (digits n) (omega arith) in
+    let nothing : drop (length part) part ≡ [] = drop_of_length-le part (omega arith) in
+    record { less = omega arith; count = λ _. sym e; parts = sym (append-nil (digits n)) ∙ rw (all, nothing) }
 
-module _ {l : List ℕ} {at n : ℕ} {l' : List ℕ} {m i : ℕ} (fits : n < 10 ^ 20) (k : Storing l at n l' m i) where
-  pub storing_more : 10 ≤ m → Storing l at n (set l' (i - 1) (48 + m % 10)) (m / 10) (i - 1)
-  storing_more h =
-      let s = length_step m h (omega arith) in
-      record {
-        less = omega arith;
-        place = omega arith;
-        stored = (48 + m % 10) ∷ k.stored;
-        parts = k.parts ∙ rw (digits_step m h (omega arith), append_snoc);
-        wrote = then_before k.wrote (i - 1) (48 + m % 10) (omega arith);
-      }
+module _ {n : ℕ} {part : List ℕ} {m i : ℕ} (fits : n < 10 ^ 20) (k : Storing n part m i) where
+  pub storing_more : 0 < i → i ≤ length part → Storing n (set part (i - 1) (48 + m % 10)) (m / 10) (i - 1)
+  storing_more p h = go (dec_lt m 10)
+    where
+      v : ℕ
+      v = 48 + m % 10
 
-  pub storing_all : m < 10 → Wrote l at (digits n) (set l' at (48 + m)) (at + length (digits n))
-  storing_all h =
-      wrote_as (then_before k.wrote at (48 + m) (k.place ∙ rw (length_small m h))) (sym (k.parts ∙ rw (digits_small m h)))
+      stored : drop (i - 1) (set part (i - 1) v) ≡ v ∷ drop i part
+      stored = let e : i - 1 + 1 ≡ i = omega arith in drop-set part (i - 1) v (omega arith) ∙ ap (λ (j : ℕ). v ∷ drop j part) e
 
-  -- a digit is left, and those that are have room
-  pub storing_room : (at < i) × (i ≤ at + length (digits n)) × (length l' ≡ length l)
-  storing_room = let e = ap length k.parts ∙ length-append (digits m) k.stored in (omega (arith, length_pos m (omega arith)), omega arith, kept k.wrote)
+      all : take i (digits m) ≡ digits m
+      all = take_all i (digits m) (omega (arith, k.count p))
+
+      go : Dec (m < 10) → Storing n (set part (i - 1) v) (m / 10) (i - 1)
+      go (yes l) =
+          let one : i - 1 ≡ 0 = omega (arith, k.count p, length_small m l) in
+          let last : 48 + m ≡ v = omega arith in
+          let none : take (i - 1) (digits (m / 10)) ≡ [] = rw one in
+          record {
+            less = omega arith;
+            count = λ q. absurd (omega arith);
+            parts = k.parts ∙ rw (all, digits_small m l, last, stored, none);
+          }
+      go (no g) =
+          let s = length_step m (omega arith) (omega (arith, k.less)) in
+          let front : take (i - 1) (digits (m / 10)) ≡ digits (m / 10) = take_all (i - 1) (digits (m / 10)) (omega (arith, k.count p)) in
+          record {
+            less = omega (arith, k.less);
+            count = λ q. omega (arith, k.count p);
+            parts = k.parts ∙ rw (all, digits_step m (omega arith) (omega (arith, k.less)), append_snoc, stored, front);
+          }
+
+  pub storing_all : i ≤ 0 → part ≡ digits n
+  storing_all h = let e : i ≡ 0 = omega arith in sym (k.parts ∙ rw e)

@@ -8,41 +8,34 @@ ghost use Rattle.decimal.specs.Digits.{digits};
 ghost use Rattle.decimal.specs.Bytes.{PutPromise};
 
 // How many digits the decimal of a number has.
+#[tactic(auto, using(decimal::proofs::DigitsLaws::length_small, decimal::proofs::WriterLaws::length_log))]
 fn width(n: u64) -> usize
     ensures { result ≡ length (digits n) }
 {
-    let mut rest = n;
-    let mut count: usize = 1;
-    while rest >= 10 {
-        rest = rest / 10;
-        count += 1;
-    }
-    count
+    n.checked_ilog10().map_or(1, |log| log as usize + 1)
 }
 
-// Stores the digits of n, of which there are `count`, from the last on.
-fn store(n: u64, count: usize, out: &mut [u8], at: usize)
-    requires { (count ≡ length (digits n)) × (at + count ≤ length out.old) }
-    ensures { Wrote out.old at (digits n) out.new (at + count) }
+// Stores the digits of n, which are as many as the part has bytes, from the last on.
+fn store(n: u64, part: &mut [u8])
+    requires { length part.old ≡ length (digits n) }
+    ensures { part.new ≡ digits n }
 {
     let mut rest = n;
-    let mut i = at + count;
-    while rest >= 10 {
-        i -= 1;
-        out[i] = 48 + (rest % 10) as u8;
-        rest = rest / 10;
+    for i in (0..part.len()).rev() {
+        part[i] = b'0' + (rest % 10) as u8;
+        rest /= 10;
     }
-    out[at] = 48 + rest as u8;
 }
 
 // Puts the decimal of n into `out` from `at` on, if there is room for it, and answers how long it is.
+// Stays with a buffer and a place in it, as all that puts bytes does: `PutPromise` says of these what is put.
+#[tactic(auto, using(decimal::proofs::BytesLaws::put_none, decimal::proofs::BytesLaws::put_part))]
 pub fn write(n: u64, out: &mut [u8], at: usize) -> usize
     ensures { PutPromise (digits n) at out.old result out.new }
 {
     let count = width(n);
-    if !room::has_room(out.len(), at, count) {
-        return count;
+    if room::has_room(out.len(), at, count) {
+        store(n, &mut out[at..at + count]);
     }
-    store(n, count, out, at);
     count
 }

@@ -1,7 +1,6 @@
 -- The small table of samples: a row is what a sample puts in, and the answer that the scope gives. Assumes nothing.
-use Rattle.std.specs.Prelude.{◌≡◌, Bool, true, false, List, [], ◌∷◌, ℕ, ℤ, pos, length}
+use Rattle.std.specs.Prelude.{◌≡◌, Bool, true, false, List, [], ◌∷◌, ℕ, ℤ, pos, length, Ok, Err}
 use Rattle.refusal.specs.Rules.{refusal, chain}
-use Rattle.refusal.specs.declared.Verdict.TheVariants.{Passed, Refused}
 use Rattle.cnf.specs.Clause.{plain, negated, words}
 use Rattle.diagram.specs.Lent.{Lent, lent, options}
 use Rattle.diagram.specs.Rules.{check_rules}
@@ -25,12 +24,12 @@ pub data Sample : Type 0 where
   unread : Lent → List ℤ → ℕ → ℕ → Sample
 
 abbrev pub Holds : Sample → Type 0
-Holds (encodes d w c v) = (chain (encode_rules edition1 d w) ≡ Passed) × (length (words (clauses edition1 d)) ≡ w) × (length (clauses edition1 d) ≡ c) × (last_variable edition1 d ≡ v)
+Holds (encodes d w c v) = (chain (encode_rules edition1 d w) ≡ Ok tt) × (length (words (clauses edition1 d)) ≡ w) × (length (clauses edition1 d) ≡ c) × (last_variable edition1 d ≡ v)
 Holds (lists d ws) = words (clauses edition1 d) ≡ ws
 Holds (allows d build a) = allows_test d build ≡ a
-Holds (refused d n p) = chain (check_rules d) ≡ Refused (refusal n p)
-Holds (reads d m build) = (chain (model_rules d m edition1 (options d)) ≡ Passed) × (build_of d m ≡ build)
-Holds (unread d m n p) = chain (model_rules d m edition1 (options d)) ≡ Refused (refusal n p)
+Holds (refused d n p) = chain (check_rules d) ≡ Err (refusal n p)
+Holds (reads d m build) = (chain (model_rules d m edition1 (options d)) ≡ Ok tt) × (build_of d m ≡ build)
+Holds (unread d m n p) = chain (model_rules d m edition1 (options d)) ≡ Err (refusal n p)
 
 abbrev pub s1 : Lent
 s1 = lent (2 ∷ []) (1 ∷ []) (0 ∷ 1 ∷ [])

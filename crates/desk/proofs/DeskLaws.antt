@@ -1,5 +1,6 @@
 -- What an answer of `run` tells: which refusals are printed, exactly when, and that a buffer of 73,750 bytes is long enough.
 -- Assumes nothing.
+use Rattle.std.specs.Prelude.{Ok, Err}
 use mathlib.Core.Path.{◌≡◌, refl, sym, ap, ◌∙◌}
 use mathlib.Core.List.{List, [], ◌∷◌}
 use Prim.Native.Nat.{ℕ, ◌≤◌}
@@ -10,11 +11,9 @@ use borrow.Author.Tests.{ltb-true, ltb-false}
 use Rattle.lists.proofs.FirstLaws.{tests_at}
 use Rattle.lists.specs.Buffer.{over}
 use Rattle.lists.proofs.BufferLaws.{over_parts}
-use Rattle.refusal.specs.Rules.{refusal, room_rule, chain}
+use Rattle.refusal.specs.Rules.{Verdict, refusal, room_rule, chain}
 use Rattle.refusal.specs.Table.{room_row, ExactlyWhen}
 use Rattle.refusal.specs.declared.Refusal.{Refusal}
-use Rattle.refusal.specs.declared.Verdict.{Verdict}
-use Rattle.refusal.specs.declared.Verdict.TheVariants as verdict
 use Rattle.refusal.proofs.TableLaws.{Faithful, faithful_append, passes_or_refuses, exactly_when}
 use Rattle.refusal.proofs.RulesLaws.{passed, never_both}
 use Rattle.refusal.proofs.RoomLaws.{room_faithful, long_enough}
@@ -34,10 +33,10 @@ use Rattle.desk.proofs.PrintLaws.{lines_most}
 
 -- what is printed where it fits
 fits : (v : Verdict) (text before : List ℕ) (answer : DeskAnswer) (after : List ℕ) → PrintedBy v text before answer after → length (printing v text) ≤ length before → (answer.outcome ≡ outcome_of v (length (printing v text))) × (after ≡ over (printing v text) before)
-fits verdict.Passed text before answer after p h =
+fits (Ok tt) text before answer after p h =
     let q = long_enough (length text) (length before) h in
     (desk_said_once answer.outcome (run.Text (length text)) (p.says ∙ rw q), p.buffer ∙ rw q)
-fits (verdict.Refused r) text before answer after p h =
+fits (Err r) text before answer after p h =
     let q = long_enough (length (refusal_lines r)) (length before) h in
     (desk_said_once answer.outcome (run.Told (length (refusal_lines r)) r) (p.says ∙ rw q), p.buffer ∙ rw q)
 
@@ -50,21 +49,21 @@ module _ (input : List ℕ) where
     λ _. faithful_append (file_rules input most_sizes) (list_rules (file_diagram input)) _ _ (file_faithful input most_sizes) (λ _. encode_faithful edition (file_diagram input) most_words),
   )
 
-  by_table : ExactlyWhen (desk_table input) (λ r. chain (desk_rules input) ≡ verdict.Refused r)
+  by_table : ExactlyWhen (desk_table input) (λ r. chain (desk_rules input) ≡ Err r)
   by_table = exactly_when (desk_rules input) (desk_table input) desk_faithful (λ r. ((λ e. e), (λ e. e)))
 
   -- what is printed by the rules' verdict is what the table says
   is_printed : (v : Verdict) → chain (desk_rules input) ≡ v → Printed input (outcome_of v (length (printing v (diagram_text (file_diagram input))))) (printing v (diagram_text (file_diagram input)))
-  is_printed verdict.Passed e = clause_text (by_table.not_refused.0 (λ r q. never_both (chain (desk_rules input)) e q))
-  is_printed (verdict.Refused r) e = refusal_as_lines r.number r.place ((by_table.refused r.number r.place).0 e)
+  is_printed (Ok tt) e = clause_text (by_table.not_refused.0 (λ r q. never_both (chain (desk_rules input)) e q))
+  is_printed (Err r) e = refusal_as_lines r.number r.place ((by_table.refused r.number r.place).0 e)
 
   printed_is : {outcome : DeskRun} {bytes : List ℕ} → Printed input outcome bytes → (v : Verdict) × (chain (desk_rules input) ≡ v) × (outcome ≡ outcome_of v (length bytes)) × (bytes ≡ printing v (diagram_text (file_diagram input)))
-  printed_is (refusal_as_lines n p g) = (verdict.Refused (refusal n p), (by_table.refused n p).1 g, refl, refl)
-  printed_is (clause_text none) = (verdict.Passed, passes_or_refuses (chain (desk_rules input)) (by_table.not_refused.1 none), refl, refl)
+  printed_is (refusal_as_lines n p g) = (Err (refusal n p), (by_table.refused n p).1 g, refl, refl)
+  printed_is (clause_text none) = ((Ok tt), passes_or_refuses (chain (desk_rules input)) (by_table.not_refused.1 none), refl, refl)
 
   -- ---- how much is printed
 
-  text_short : chain (desk_rules input) ≡ verdict.Passed → length (diagram_text (file_diagram input)) ≤ 73750
+  text_short : chain (desk_rules input) ≡ Ok tt → length (diagram_text (file_diagram input)) ≤ 73750
   unfolding desk_rules
   text_short q =
       let w = passed (file_rules input most_sizes) (list_rules (file_diagram input)) (passed (_ ∷ []) (lines_rules input) q).1 in
@@ -72,8 +71,8 @@ module _ (input : List ℕ) where
       omega (arith, text_most (edition1_listed (file_diagram input) s.0), s.1)
 
   short : (v : Verdict) → chain (desk_rules input) ≡ v → length (printing v (diagram_text (file_diagram input))) ≤ 73750
-  short verdict.Passed q = text_short q
-  short (verdict.Refused r) q = omega (arith, lines_most r)
+  short (Ok tt) q = text_short q
+  short (Err r) q = omega (arith, lines_most r)
 
   -- something is, and it is never longer than the program's buffer
   pub is_short : (outcome : DeskRun) × (bytes : List ℕ) × Printed input outcome bytes × (length bytes ≤ 73750)
@@ -83,8 +82,8 @@ module _ (input : List ℕ) where
 
 tells : (v : Verdict) (text before : List ℕ) (answer : DeskAnswer) (after : List ℕ) → PrintedBy v text before answer after
     → Told desk_said run.Refused (room_rule (length (printing v text)) (length before) ∷ []) (desk_said (outcome_of v (length (printing v text)))).values (over (printing v text) before) before answer.outcome after
-tells verdict.Passed text before answer after p = told desk_said desk_said_once run.Refused (λ r. refl) p
-tells (verdict.Refused r) text before answer after p = told desk_said desk_said_once run.Refused (λ r. refl) p
+tells (Ok tt) text before answer after p = told desk_said desk_said_once run.Refused (λ r. refl) p
+tells (Err r) text before answer after p = told desk_said desk_said_once run.Refused (λ r. refl) p
 
 -- of what is to be printed
 module _ (input before : List ℕ) (answer : DeskAnswer) (after : List ℕ) (promise : DeskPromise input before answer after) {outcome : DeskRun} {bytes : List ℕ} (w : Printed input outcome bytes) where

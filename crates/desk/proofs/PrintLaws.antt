@@ -1,4 +1,5 @@
 -- Laws of what is printed: a refusal's lines part by part, and that all of it fits or nothing is written. Assumes nothing.
+use Rattle.std.specs.Prelude.{Ok, Err}
 use mathlib.Core.Path.{◌≡◌, refl, sym, ap, ◌∙◌}
 use mathlib.Core.List.{List, [], append_assoc}
 use Prim.Native.Nat.{ℕ, ◌+◌, ◌≤◌, ◌<◌}
@@ -8,7 +9,6 @@ use Rattle.lists.specs.Buffer.{Wrote}
 use Rattle.lists.proofs.BufferLaws.{kept, then, written, over_parts}
 use Rattle.refusal.specs.Rules.{refusal}
 use Rattle.refusal.specs.declared.Refusal.{Refusal}
-use Rattle.refusal.specs.declared.Verdict.TheVariants as verdict
 use Rattle.refusal.proofs.RoomLaws.{too_short, long_enough}
 use Rattle.refusal.proofs.AnsweredLaws.{by_refusal, by_result}
 use Rattle.decimal.specs.Digits.{digits}
@@ -69,12 +69,12 @@ module _ (r : Refusal) (before : List ℕ) {n : ℕ} {after : List ℕ} (p : Put
   same_length : length after ≡ length before
   same_length = put_length (refusal_lines r) 0 before p
 
-  pub printed_short : length after < n → PrintedBy (verdict.Refused r) [] before (record { outcome = Refused (refusal 7 n) }) after
+  pub printed_short : length after < n → PrintedBy (Err r) [] before (record { outcome = Refused (refusal 7 n) }) after
   printed_short h =
       let short : length before < length (refusal_lines r) = omega (arith, same_length, p.counts) in
-      rw (put_kept (refusal_lines r) 0 before (omega arith) p) (by_refusal desk_said _ _ before refl (too_short (length (refusal_lines r)) (length before) short ∙ ap (λ (k : ℕ). verdict.Refused (refusal 7 k)) (sym p.counts)))
+      rw (put_kept (refusal_lines r) 0 before (omega arith) p) (by_refusal desk_said _ _ before refl (too_short (length (refusal_lines r)) (length before) short ∙ ap (λ (k : ℕ). Err (refusal 7 k)) (sym p.counts)))
 
-  pub printed_told : n ≤ length after → PrintedBy (verdict.Refused r) [] before (record { outcome = Told n r }) after
+  pub printed_told : n ≤ length after → PrintedBy (Err r) [] before (record { outcome = Told n r }) after
   printed_told h =
       let long : length (refusal_lines r) ≤ length before = omega (arith, same_length, p.counts) in
       by_result desk_said _ _ before (ap (λ (k : ℕ). desk_said (Told k r)) p.counts) (long_enough (length (refusal_lines r)) (length before) long) (written long (put_wrote (refusal_lines r) 0 before (omega arith) p))

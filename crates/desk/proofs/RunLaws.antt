@@ -1,5 +1,6 @@
 -- Laws of the functions inside `run`: what they learn from the diagram file, from the encoder and from the writer of clause
 -- text, and how they come to what is printed. Assumes nothing.
+use Rattle.std.specs.Prelude.{Ok, Err}
 use mathlib.Core.Path.{◌≡◌, refl, sym, ap, ◌∙◌}
 use mathlib.Core.List.{List}
 use Prim.Native.Nat.{ℕ, ◌≤◌, ◌<◌}
@@ -9,10 +10,8 @@ use lib.ListN.{length, take, length-take}
 use borrow.Author.Tests.{le-ltb, lt-ltb}
 use Rattle.lists.specs.Buffer.{over}
 use Rattle.lists.proofs.BufferLaws.{over_parts}
-use Rattle.refusal.specs.Rules.{refusal, chain}
+use Rattle.refusal.specs.Rules.{Verdict, refusal, chain}
 use Rattle.refusal.specs.declared.Refusal.{Refusal}
-use Rattle.refusal.specs.declared.Verdict.{Verdict}
-use Rattle.refusal.specs.declared.Verdict.TheVariants as verdict
 use Rattle.refusal.proofs.RulesLaws.{refuses, passes}
 use Rattle.refusal.proofs.SaidLaws.{refused_as}
 use Rattle.refusal.proofs.AnsweredLaws.{Told, told}
@@ -48,7 +47,7 @@ use Rattle.desk.specs.declared.DeskAnswer.{DeskAnswer}
 -- ---- the writer of clause text: its answer says what is answered
 
 pub text_printed : (v : ℕ) (ws : List ℤ) (before : List ℕ) {answer : WriteAnswer} {after : List ℕ} → WellWords v ws → WritePromise v ws before answer after → (o : TextWritten) (a : DeskRun) → answer.outcome ≡ o → desk_said a ≡ written_said o
-    → PrintedBy verdict.Passed (text_of v ws) before (record { outcome = a }) after
+    → PrintedBy (Ok tt) (text_of v ws) before (record { outcome = a }) after
 text_printed v ws before w p o a q e = let r = write_well v ws before w p in record { says = e ∙ ap written_said (sym q) ∙ r.says; buffer = r.buffer }
 
 -- the same verdict and text, said in another way
@@ -67,11 +66,11 @@ begins_long {n = n} {l = l} w = let e = ap length w.entries in (omega (arith, e,
 -- ---- the encoder, in as many words as the program has
 
 module _ (d : Lent) (before : List ℤ) (answer : EncodeAnswer) (after : List ℤ) (p : EncodePromise edition1 d before answer after) (room : length before ≡ most_words) where
-  pub list_refused : (r : Refusal) → answer.outcome ≡ encoded.Refused r → verdict.Refused r ≡ chain (list_rules d)
+  pub list_refused : (r : Refusal) → answer.outcome ≡ encoded.Refused r → Err r ≡ chain (list_rules d)
   list_refused r q = sym (ap (λ (n : ℕ). chain (encode_rules edition1 d n)) (sym room) ∙ (refused_as encoded_said encoded_said_once encoded.Refused (λ r. refl) answer.outcome (chain (encode_rules edition1 d (length before))) _ _ p.says r).0 q)
 
   pub record Listed (t : Tally) : Type 0 where
-    pub passes_all : verdict.Passed ≡ chain (list_rules d)
+    pub passes_all : (Ok tt) ≡ chain (list_rules d)
     pub last : t.variables ≡ last_variable edition1 d
     pub the_words : Begins t.words after (words (clauses edition1 d))
     pub well : WellWords t.variables (take t.words after)
@@ -98,7 +97,7 @@ module _ (input : List ℕ) (before : Lent) (answer : FileAnswer) (after : Lent)
   file_verdict : chain (file_rules input (room_of before)) ≡ chain (file_rules input most_sizes)
   file_verdict = ap (λ (m : Sizes). chain (file_rules input m)) room
 
-  pub file_refused : (r : Refusal) → answer.outcome ≡ file.Refused r → verdict.Refused r ≡ chain (lines_rules input)
+  pub file_refused : (r : Refusal) → answer.outcome ≡ file.Refused r → Err r ≡ chain (lines_rules input)
   file_refused r q =
       let e = sym ((refused_as file_said file_said_once file.Refused (λ r. refl) answer.outcome (chain (file_rules input (room_of before))) _ _ p.says r).0 q) ∙ file_verdict in
       refuses (file_rules input most_sizes) (list_rules (file_diagram input)) e refl
@@ -134,7 +133,7 @@ module _ (input : List ℕ) (before : Lent) (answer : FileAnswer) (after : Lent)
 
 -- ---- the input's length
 
-pub too_long : (input : List ℕ) → most_bytes < length input → verdict.Refused (refusal 21 0) ≡ chain (desk_rules input)
+pub too_long : (input : List ℕ) → most_bytes < length input → Err (refusal 21 0) ≡ chain (desk_rules input)
 unfolding desk_rules chain
 too_long input h = rw (lt-ltb most_bytes (length input) h)
 

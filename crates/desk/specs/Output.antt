@@ -1,12 +1,10 @@
 -- What the program prints for the bytes that it was given: the clause text of the diagram, or two lines that tell a refusal.
 -- Assumes nothing.
-use Rattle.std.specs.Prelude.{◌≡◌, List, [], ◌∷◌, ◌++◌, ℕ, ◌≤◌, ltb, length}
+use Rattle.std.specs.Prelude.{◌≡◌, List, [], ◌∷◌, ◌++◌, ℕ, ◌≤◌, ltb, length, Ok, Err}
 use Rattle.lists.specs.First.{found_if}
-use Rattle.refusal.specs.Rules.{Rule, rule}
+use Rattle.refusal.specs.Rules.{Verdict, Rule, rule}
 use Rattle.refusal.specs.Table.{Row, row}
 use Rattle.refusal.specs.declared.Refusal.{Refusal}
-use Rattle.refusal.specs.declared.Verdict.{Verdict}
-use Rattle.refusal.specs.declared.Verdict.TheVariants.{Passed, Refused}
 use Rattle.decimal.specs.Digits.{digits}
 use Rattle.cnf.specs.Clause.{words}
 use Rattle.diagram.specs.Lent.{Lent}
@@ -72,5 +70,5 @@ diagram_text d = text_of (last_variable edition d) (words (clauses edition d))
 
 -- the refusal's lines, or else the text
 abbrev pub printing : Verdict → List ℕ → List ℕ
-printing Passed text = text
-printing (Refused r) text = refusal_lines r
+printing (Ok tt) text = text
+printing (Err r) text = refusal_lines r

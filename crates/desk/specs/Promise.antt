@@ -1,13 +1,11 @@
 -- What `run` promises for every input: its whole answer, and what the lent buffer holds afterwards. Assumes nothing.
-use Rattle.std.specs.Prelude.{◌≡◌, List, [], ◌∷◌, ℕ, length, get_or, take, drop}
+use Rattle.std.specs.Prelude.{◌≡◌, List, [], ◌∷◌, ℕ, length, get_or, take, drop, Ok, Err}
 use Rattle.std.proofs.Common.{ap}
 use Rattle.lists.specs.Buffer.{over}
-use Rattle.refusal.specs.Rules.{refusal, room_rule, chain}
+use Rattle.refusal.specs.Rules.{Verdict, refusal, room_rule, chain}
 use Rattle.refusal.specs.Said.{Said, refused, result_of}
 use Rattle.refusal.specs.Table.{GivenIn, NoneDue}
 use Rattle.refusal.specs.Answered.{AnsweredBy, answered_once}
-use Rattle.refusal.specs.declared.Verdict.{Verdict}
-use Rattle.refusal.specs.declared.Verdict.TheVariants as verdict
 use Rattle.refusal.proofs.SaidLaws.{refused_one}
 use Rattle.diagram_file.specs.File.{file_diagram}
 use Rattle.desk.specs.Output.{desk_rules, desk_table, refusal_lines, diagram_text, printing}
@@ -23,8 +21,8 @@ desk_said (Refused r) = refused r
 
 -- where all of it fits: a verdict's refusal is told, or else a text is printed
 abbrev pub outcome_of : Verdict → ℕ → DeskRun
-outcome_of verdict.Passed bytes = Text bytes
-outcome_of (verdict.Refused r) bytes = Told bytes r
+outcome_of (Ok tt) bytes = Text bytes
+outcome_of (Err r) bytes = Told bytes r
 
 -- what a function promises that prints a verdict's refusal, or else a text: where all of it fits into the lent buffer it
 -- stands at the buffer's front, the rest is kept, and the answer says how many bytes it has and which refusal it tells; where

@@ -6,6 +6,7 @@ use refusal::Refusal;
 
 // What was printed: a clause text, or the two lines of a refusal; and how many bytes. Number 7 where the lent buffer is too
 // short for it.
+// Stays: a project rule: an answer is an enum whose refusal case holds number and place, and a struct holds that.
 #[derive(Clone, Copy)]
 pub enum DeskRun {
     Text(usize),

@@ -1,11 +1,11 @@
 -- What an answer of `check` tells: each number is given exactly when its row of the table is due and none before it is,
 -- and "sound" is answered exactly when the diagram is sound, with its counts. Assumes nothing.
+use Rattle.std.specs.Prelude.{Ok, Err}
 use mathlib.Core.Path.{◌≡◌, refl, sym, ◌∙◌, ap}
 use mathlib.Core.Logic.{◌↔◌}
 use Rattle.refusal.specs.Rules.{chain}
 use Rattle.refusal.specs.Table.{ExactlyWhen}
 use Rattle.refusal.specs.declared.Refusal.{Refusal}
-use Rattle.refusal.specs.declared.Verdict.TheVariants.{Passed, Refused as Refusing}
 use Rattle.refusal.proofs.SaidLaws.{refused_as, said_passed}
 use Rattle.refusal.proofs.TableLaws.{exactly_when}
 use Rattle.diagram.specs.Lent.{Lent}
@@ -18,10 +18,10 @@ use Rattle.diagram.specs.declared.CheckAnswer.{CheckAnswer}
 use Rattle.diagram.proofs.SoundLaws.{check_faithful, passed_sound, sound_passed}
 
 module _ (d : Lent) (answer : CheckAnswer) (promise : CheckPromise d answer) where
-  pub answer_refused : (r : Refusal) → (answer.outcome ≡ Refused r) ↔ (chain (check_rules d) ≡ Refusing r)
+  pub answer_refused : (r : Refusal) → (answer.outcome ≡ Refused r) ↔ (chain (check_rules d) ≡ Err r)
   answer_refused = refused_as check_said check_said_once Refused (λ r. refl) answer.outcome (chain (check_rules d)) _ _ promise.says
 
-  pub answer_sound : {c : Diagram} → answer.outcome ≡ IsSound c → chain (check_rules d) ≡ Passed
+  pub answer_sound : {c : Diagram} → answer.outcome ≡ IsSound c → chain (check_rules d) ≡ Ok tt
   answer_sound e = said_passed (chain (check_rules d)) _ _ _ _ (sym (ap check_said e) ∙ promise.says)
 
   -- each number from 1 to 6 is given exactly when its row is due and none before it is

@@ -1,4 +1,5 @@
 -- What the tests of the domains and the layers mean, and what follows once they have passed. Assumes nothing.
+use Rattle.std.specs.Prelude.{Ok}
 use mathlib.Core.Path.{◌≡◌, refl, sym}
 use mathlib.Core.Bool.{Bool, true, false, not, cond, ◌||◌}
 use mathlib.Core.List.{List, []}
@@ -13,7 +14,6 @@ use Rattle.lists.specs.First.{found_if, first, FirstFailing}
 use Rattle.lists.proofs.UptoLaws.{both_false, Sums, sums, sum_most}
 use Rattle.lists.proofs.FirstLaws.{Tests, tests_one, tests_each}
 use Rattle.refusal.specs.Rules.{chain}
-use Rattle.refusal.specs.declared.Verdict.TheVariants.{Passed}
 use Rattle.refusal.proofs.RulesLaws.{not_due}
 use Rattle.diagram.specs.Lent.{Lent, lent, options, nodes, domain, layer, asked, width, first_edge}
 use Rattle.diagram.specs.Sound.{Within, Rising, OptionsFit, DomainFits, NodesFit, LayerFits, Shaped}
@@ -85,7 +85,7 @@ module _ (d : Lent) where
   tests_4 = tests_each (bad_layer d) (LayerFits d) (nodes d) (λ v _. layer_good v) (λ v _. layer_not_good v)
 
   -- the rules 1 to 4 have passed
-  pub shaped : chain (option_rules d) ≡ Passed → chain (node_rules d) ≡ Passed → Shaped d
+  pub shaped : chain (option_rules d) ≡ Ok tt → chain (node_rules d) ≡ Ok tt → Shaped d
   unfolding option_rules node_rules
   shaped o n =
       let o₁ = not_due 1 (found_if (outside 1 64 (options d)) 0) _ o in

@@ -1,4 +1,5 @@
 -- The rules compute what the table says, and a diagram passes them exactly when it is sound. Assumes nothing.
+use Rattle.std.specs.Prelude.{Ok}
 use mathlib.Core.Path.{◌≡◌, refl, sym, ◌∙◌}
 use mathlib.Core.Bool.{Bool, true, false, not, ◌&&◌, true≢false}
 use mathlib.Core.List.{[]}
@@ -11,7 +12,6 @@ use Rattle.lists.specs.First.{found_if, first, FirstFailing}
 use Rattle.lists.proofs.UptoLaws.{sum_split, sum_within}
 use Rattle.lists.proofs.FirstLaws.{Tests, tests_each, tests_equal}
 use Rattle.refusal.specs.Rules.{chain}
-use Rattle.refusal.specs.declared.Verdict.TheVariants.{Passed}
 use Rattle.refusal.proofs.RulesLaws.{passed, not_due}
 use Rattle.refusal.proofs.TableLaws.{Faithful}
 use Rattle.diagram.specs.Lent.{Lent, options, nodes, layer, width, first_edge, edges, target}
@@ -71,7 +71,7 @@ module _ (d : Lent) where
 
   -- ---- a sound diagram
 
-  pub passed_sound : chain (check_rules d) ≡ Passed → Sound d
+  pub passed_sound : chain (check_rules d) ≡ Ok tt → Sound d
   unfolding check_rules target_rules first_edge
   passed_sound e =
       let w = passed (shape_rules d) (target_rules d) e in
@@ -84,7 +84,7 @@ module _ (d : Lent) where
         permitted = λ v j hv hj. tests_6.none.0 t₂.0 (first_edge d v + j) (sum_within (width d) v (nodes d) j hv hj) v j hv hj refl;
       }
 
-  pub sound_passed : Sound d → chain (check_rules d) ≡ Passed
+  pub sound_passed : Sound d → chain (check_rules d) ≡ Ok tt
   unfolding check_rules option_rules node_rules target_rules chain
   sound_passed s =
       rw (

@@ -1,10 +1,10 @@
 -- No promise here is empty: some diagram is sound, and each number from 1 to 6 is due for some diagram. Assumes nothing.
+use Rattle.std.specs.Prelude.{Ok, Err}
 use mathlib.Core.Path.{◌≡◌, refl}
 use mathlib.Core.List.{List, [], ◌∷◌, map}
 use Rattle.lists.specs.Upto.{sum_to, last_to}
 use Rattle.lists.specs.First.{first}
 use Rattle.refusal.specs.Rules.{refusal, chain}
-use Rattle.refusal.specs.declared.Verdict.TheVariants.{Passed, Refused}
 use Rattle.diagram.specs.Lent.{Lent, lent, first_edge}
 use Rattle.diagram.specs.Sound.{Sound}
 use Rattle.diagram.specs.Rules.{bad_layer, permits, owner, bad_target, option_rules, node_rules, target_rules, check_rules}
@@ -26,7 +26,7 @@ spoilt =
     ∷ []
 
 pub verdicts : map (λ (d : Lent). chain (check_rules d)) (sample ∷ spoilt)
-    ≡ Passed ∷ Refused (refusal 1 0) ∷ Refused (refusal 2 1) ∷ Refused (refusal 3 0) ∷ Refused (refusal 4 1) ∷ Refused (refusal 5 0) ∷ Refused (refusal 6 3) ∷ []
+    ≡ Ok tt ∷ Err (refusal 1 0) ∷ Err (refusal 2 1) ∷ Err (refusal 3 0) ∷ Err (refusal 4 1) ∷ Err (refusal 5 0) ∷ Err (refusal 6 3) ∷ []
 unfolding sum_to last_to first chain first_edge bad_layer permits owner bad_target option_rules node_rules target_rules check_rules
 verdicts = refl
 

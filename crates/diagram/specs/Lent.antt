@@ -2,6 +2,7 @@
 -- the number of its option counted from 1, and the references are 0 for F, 1 for T and v + 2 for node v. Assumes nothing.
 use Rattle.std.specs.Prelude.{◌≡◌, List, ℕ, zero, suc, ◌+◌, ◌-◌, ◌<◌, length, get_or}
 use Rattle.lists.specs.Upto.{sum_to}
+use Rattle.diagram.specs.declared.Lists.{Lists}
 
 pub record Lent : Type 0 where
   pub domains : List ℕ
@@ -10,6 +11,10 @@ pub record Lent : Type 0 where
 
 abbrev pub lent : List ℕ → List ℕ → List ℕ → Lent
 lent ds ls ts = record { domains = ds; layers = ls; targets = ts }
+
+-- the diagram that three lists are
+abbrev pub lent_by : Lists → Lent
+lent_by l = lent l.domains.now l.layers.now l.targets.now
 
 -- the value that a build, as a list, chooses for option i
 abbrev pub chosen : List ℕ → ℕ → ℕ

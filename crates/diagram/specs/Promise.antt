@@ -1,9 +1,10 @@
 -- What `check` promises for every input: its whole answer. Assumes nothing.
-use Rattle.std.specs.Prelude.{◌≡◌, List, [], ◌∷◌, ℕ, get_or}
+use Rattle.std.specs.Prelude.{◌≡◌, List, [], ◌∷◌, ℕ, get_or, Result}
 use Rattle.std.proofs.Common.{sym, ◌∙◌, ap}
 use Rattle.refusal.specs.Rules.{chain}
-use Rattle.refusal.specs.Said.{Said, refused, result_of, saying}
+use Rattle.refusal.specs.Said.{Said, refused, result_of, saying, giving}
 use Rattle.refusal.proofs.SaidLaws.{refused_one}
+use Rattle.refusal.specs.declared.Refusal.{Refusal}
 use Rattle.diagram.specs.Lent.{Lent, options, nodes, edges}
 use Rattle.diagram.specs.Numbers.{values}
 use Rattle.diagram.specs.Rules.{check_rules}
@@ -24,6 +25,10 @@ check_said (Refused r) = refused r
 -- a diagram's own counts
 abbrev pub counts_of : Lent → Diagram
 counts_of d = record { options = options d; nodes = nodes d; values = values d; edges = edges d }
+
+-- a diagram that is found sound, or the first refusal of numbers 1 to 6 that is due
+abbrev pub sound_of : Lent → Result Lent Refusal
+sound_of d = giving (chain (check_rules d)) d
 
 pub record CheckPromise (d : Lent) (answer : CheckAnswer) : Type 0 where
   pub says : check_said answer.outcome ≡ saying (chain (check_rules d)) (counts_said (counts_of d))

@@ -9,6 +9,14 @@ ghost use Rattle.diagram.specs.Numbers.{value_number, reference_number, edge_num
 
 use refusal::Refusal;
 
+// A diagram as it is lent: its three lists.
+#[derive(Clone, Copy)]
+pub struct Lists<'a> {
+    pub domains: &'a [u32],
+    pub layers: &'a [u32],
+    pub targets: &'a [u32],
+}
+
 // A sound diagram's counts: options (n), nodes (s), values (D) and edges (E).
 #[derive(Clone, Copy)]
 pub struct Diagram {
@@ -18,6 +26,7 @@ pub struct Diagram {
     pub edges: u32,
 }
 
+// Stays: a project rule: an answer is an enum whose refusal case holds number and place, and a struct holds that.
 #[derive(Clone, Copy)]
 pub enum Checked {
     Sound(Diagram),

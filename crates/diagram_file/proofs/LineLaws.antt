@@ -10,13 +10,14 @@ use lib.Dec.{eqb}
 use lib.ListN.{length, drop, length-append, length-drop, drop_of_length-le}
 use lib.Seq.{drop-drop, drop-append_seam}
 use borrow.Author.Tests.{leb-true, le-leb, ne_eqb}
+use Rattle.std.specs.Prelude.{Some, None}
 use Rattle.decimal.specs.Digits.{is_digit, all_digits, plain, is_decimal, value}
 use Rattle.decimal.specs.Bytes.{line_feed, has_at}
-use Rattle.decimal.specs.Reading.{run, cut, field_at}
+use Rattle.decimal.specs.Reading.{run, cut, decimal_at, reading_at, field_at}
 use Rattle.decimal.proofs.DigitsLaws.{decimal_digits, all_first, digit_range}
 use Rattle.decimal.proofs.BytesLaws.{starts_with_lem, with_start}
-use Rattle.decimal.proofs.FieldLaws.{field_read, read_field}
-use Rattle.diagram_file.specs.Lines.{most_value, first_line, one_line, GivesValue, line_start, line, LineGives, read_after, formed_at, line_at, formed, value_of}
+use Rattle.decimal.proofs.FieldLaws.{field_read, read_field, field_splits}
+use Rattle.diagram_file.specs.Lines.{most_value, first_line, one_line, GivesValue, line_start, line, LineGives, read_after, formed_at, line_said, line_at, formed, value_of}
 use Rattle.diagram_file.specs.declared.Line.{Line}
 
 -- ---- the first line of a text
@@ -96,8 +97,8 @@ module _ (text key : List ℕ) (at : ℕ) where
   unfolding formed_at
   formed_stands h =
       let a = (and-eq-true_iff (has_at text at key) _).0 h in
-      let b = (and-eq-true_iff (field_at text (read_after text key at) line_feed) _).0 a.1 in
-      let f = (and-eq-true_iff (read_after text key at).good _).0 b.0 in
+      let b = (and-eq-true_iff (field_at text (reading_at text (at + length key)) line_feed) _).0 a.1 in
+      let f = (and-eq-true_iff (decimal_at text (at + length key)) _).0 (sym (field_splits text (at + length key) line_feed) ∙ b.0) in
       let ds : List ℕ = run (drop (at + length key) text) in
       let rest : List ℕ = drop (at + length key + length ds + 1) text in
       let m : cut (value ds) ≤ most_value = leb-true _ _ b.1 in
@@ -160,28 +161,44 @@ module _ (text key : List ℕ) (one : one_line key ≡ true) (k : ℕ) where
 
 -- ---- what is read of the lines one after the other
 
--- a line's form is the one that is read
-pub line_formed : (text key : List ℕ) (at : ℕ) → (line_at text key at).formed ≡ formed_at text key at
+-- there is a line exactly where the form is found
+pub line_none : (text key : List ℕ) (at : ℕ) → None ≡ line_at text key at → formed_at text key at ≡ false
 unfolding line_at
-line_formed text key at = go (formed_at text key at)
+line_none text key at e = go (formed_at text key at) e
   where
-    go : (t : Bool) → (cond {A = Line} t (record { formed = true; value = (read_after text key at).value; next = (read_after text key at).end + 1 }) (record { formed = false; value = 0; next = 0 })).formed ≡ t
-    go true = refl
-    go false = refl
+    go : (t : Bool) → None ≡ cond t (Some (line_said text key at)) None → t ≡ false
+    go true k = cc
+    go false k = refl
 
--- of a line that has it: its value is the one that is read, and the next line begins where the reading ends
-module _ (text key : List ℕ) (k : ℕ) (h : formed text key k ≡ true) where
-  pub line_value : (line_at text key (line_start text k)).value ≡ value_of text key k
-  unfolding line_at value_of
-  line_value = rw h
+pub line_some : (text key : List ℕ) (at : ℕ) (l : Line) → Some l ≡ line_at text key at → (formed_at text key at ≡ true) × (l ≡ line_said text key at)
+unfolding line_at
+line_some text key at l e = go (formed_at text key at) e
+  where
+    go : (t : Bool) → Some l ≡ cond t (Some (line_said text key at)) None → (t ≡ true) × (l ≡ line_said text key at)
+    go true k = (refl, cc)
+    go false k = cc
 
-  pub line_next : one_line key ≡ true → (line_at text key (line_start text k)).next ≡ line_start text (k + 1)
-  unfolding line_at
-  line_next one = rw (h, next_start text key one k h)
+-- line k, where it has the form: its value; and the next line begins past it, inside the text and two bytes further at least
+pub record LineRead (text key : List ℕ) (k : ℕ) (l : Line) : Type 0 where
+  pub has_form : formed text key k ≡ true
+  pub gives : l.value ≡ value_of text key k
+  pub next : l.next ≡ line_start text (k + 1)
+  pub inside : l.next ≤ length text
+  pub further : line_start text k + 2 ≤ l.next
 
-  -- inside the text, and two bytes further at least
-  pub line_inside : one_line key ≡ true → (line_start text (k + 1) ≤ length text) × (line_start text k + 2 ≤ line_start text (k + 1))
-  line_inside one = let e = next_start text key one k h in let i = formed_inside text key (line_start text k) h in (omega (arith, e, i.0), omega (arith, e, i.1))
+pub line_read : (text key : List ℕ) → one_line key ≡ true → (k at : ℕ) → at ≡ line_start text k → (l : Line) → Some l ≡ line_at text key at → LineRead text key k l
+unfolding value_of
+line_read text key one k at p l e =
+    let w = line_some text key (line_start text k) l (e ∙ ap (line_at text key) p) in
+    let n = next_start text key one k w.0 in
+    let i = formed_inside text key (line_start text k) w.0 in
+    record {
+      has_form = w.0;
+      gives = ap (λ (l : Line). l.value) w.1;
+      next = ap (λ (l : Line). l.next) w.1 ∙ sym n;
+      inside = omega (arith, i.0, ap (λ (l : Line). l.next) w.1);
+      further = omega (arith, i.1, ap (λ (l : Line). l.next) w.1);
+    }
 
 -- ---- the end of the text
 

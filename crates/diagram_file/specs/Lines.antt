@@ -1,9 +1,9 @@
 -- The lines of a text, and the form of a line that gives a value. Lines, and the bytes of a text, count from 0 here. Assumes
 -- nothing.
-use Rattle.std.specs.Prelude.{◌≡◌, Bool, true, false, cond, not, ◌&&◌, List, [], ◌∷◌, ◌++◌, ℕ, zero, suc, ◌+◌, ◌≤◌, leb, eqb, length, drop}
+use Rattle.std.specs.Prelude.{◌≡◌, Bool, true, cond, not, ◌&&◌, Option, Some, None, List, [], ◌∷◌, ◌++◌, ℕ, zero, suc, ◌+◌, ◌≤◌, leb, eqb, length, drop}
 use Rattle.decimal.specs.Digits.{is_decimal, value}
 use Rattle.decimal.specs.Bytes.{line_feed, has_at}
-use Rattle.decimal.specs.Reading.{reading_at, field_at}
+use Rattle.decimal.specs.Reading.{digits_at, reading_at, field_at}
 use Rattle.decimal.specs.declared.Reading.{Reading}
 use Rattle.diagram_file.specs.declared.Line.{Line}
 
@@ -44,15 +44,19 @@ module _ (text : List ℕ) where
 
   -- the digits that stand after as many bytes as the key has
   abbrev pub read_after : List ℕ → ℕ → Reading
-  read_after key at = reading_at text (at + length key)
+  read_after key at = digits_at text (at + length key)
 
   -- the key, a value and a line feed stand from an index of the text on
   unfoldable pub formed_at : List ℕ → ℕ → Bool
-  formed_at key at = has_at text at key && (field_at text (read_after key at) line_feed && leb (read_after key at).value most_value)
+  formed_at key at = has_at text at key && (field_at text (reading_at text (at + length key)) line_feed && leb (read_after key at).value most_value)
 
-  -- the line that stands there: its value, and where the next one begins
-  unfoldable pub line_at : List ℕ → ℕ → Line
-  line_at key at = cond (formed_at key at) (record { formed = true; value = (read_after key at).value; next = (read_after key at).end + 1 }) (record { formed = false; value = 0; next = 0 })
+  -- what it says: its value, and where the next line begins
+  abbrev pub line_said : List ℕ → ℕ → Line
+  line_said key at = record { value = (read_after key at).value; next = (read_after key at).end + 1 }
+
+  -- the line that stands there, if it has that form
+  unfoldable pub line_at : List ℕ → ℕ → Option Line
+  line_at key at = cond (formed_at key at) (Some (line_said key at)) None
 
   abbrev pub formed : List ℕ → ℕ → Bool
   formed key k = formed_at key (line_start k)

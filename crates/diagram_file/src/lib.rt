@@ -11,6 +11,7 @@ pub struct Sizes {
     pub edges: usize,
 }
 
+// Stays: a project rule: an answer is an enum whose refusal case holds number and place, and a struct holds that.
 #[derive(Clone, Copy)]
 pub enum FileRead {
     Read(Sizes),
@@ -22,23 +23,32 @@ pub struct FileAnswer {
     pub outcome: FileRead,
 }
 
-// A line's value, where it has the form, and where the next line begins.
+// A line that has the form: its value, and where the next line begins.
 #[derive(Clone, Copy)]
 pub struct Line {
-    pub formed: bool,
     pub value: u32,
     pub next: usize,
 }
 
-// The keys, with the byte that follows them.
-pub const OPTIONS: [u8; 8] = *b"options=";
+// One part of a file: the key of the line that says how many lines follow it, and the key of these, each with the byte that
+// follows it.
+#[derive(Clone, Copy)]
+pub struct Part {
+    pub key: &'static [u8],
+    pub later: &'static [u8],
+}
 
-pub const DOMAIN: [u8; 7] = *b"domain=";
+pub const OPTIONS: Part = Part {
+    key: b"options=",
+    later: b"domain=",
+};
 
-pub const NODES: [u8; 6] = *b"nodes=";
+pub const NODES: Part = Part {
+    key: b"nodes=",
+    later: b"layer=",
+};
 
-pub const LAYER: [u8; 6] = *b"layer=";
-
-pub const EDGES: [u8; 6] = *b"edges=";
-
-pub const TO: [u8; 3] = *b"to=";
+pub const EDGES: Part = Part {
+    key: b"edges=",
+    later: b"to=",
+};

@@ -1,5 +1,6 @@
 -- Laws of the text that the writer writes: word by word, clause by clause, its bytes, and its tokens, which say the words.
 -- Assumes nothing.
+use Rattle.std.specs.Prelude.{Ok}
 use mathlib.Core.Path.{◌≡◌, refl, sym, ap, ◌∙◌}
 use mathlib.Core.Logic.{inl, inr}
 use mathlib.Core.Bool.{Bool, true, false, cond}
@@ -16,7 +17,6 @@ use Rattle.lists.specs.Signed.{is_zero}
 use Rattle.lists.proofs.UptoLaws.{list_none, list_front}
 use Rattle.lists.proofs.EveryLaws.{every_none, every_more, every_both, each_every, entry_in}
 use Rattle.refusal.specs.Rules.{chain}
-use Rattle.refusal.specs.declared.Verdict.TheVariants.{Passed}
 use Rattle.decimal.specs.Bytes.{line_feed}
 use Rattle.decimal.specs.Digits.{digits}
 use Rattle.decimal.proofs.DigitsLaws.{digits_small, all_digits_lem, all_every, digits_decimal, value_digits, length_pos}
@@ -99,7 +99,7 @@ body_words at (z ∷ zs) g =
     let h = g z (Memᴰ.head refl) in
     rw (body_tokens at z zs h, literal_says z h, body_words (at + length (literal_text z) + 1) zs (λ x m. g x (Memᴰ.tail m)))
 
-pub body_passes : (v at : ℕ) (zs : List ℤ) → v < 10 ^ 20 → Every (λ z. nat_abs z ≤ v) zs → chain (token_rules v (tokens false at (body zs))) ≡ Passed
+pub body_passes : (v at : ℕ) (zs : List ℤ) → v < 10 ^ 20 → Every (λ z. nat_abs z ≤ v) zs → chain (token_rules v (tokens false at (body zs))) ≡ Ok tt
 unfolding chain token_rules tokens
 body_passes v at [] l g = rw body_none
 body_passes v at (z ∷ zs) l g =

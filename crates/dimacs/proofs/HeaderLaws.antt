@@ -9,10 +9,10 @@ use lib.ListN.{length, drop}
 use lib.Seq.{drop-drop}
 use Rattle.decimal.specs.Digits.{is_digit, value, digits}
 use Rattle.decimal.specs.Bytes.{line_feed, has_at}
-use Rattle.decimal.specs.Reading.{run, cut, field_at}
+use Rattle.decimal.specs.Reading.{run, cut, decimal_at, reading_at, field_at}
 use Rattle.decimal.proofs.DigitsLaws.{digits_decimal}
 use Rattle.decimal.proofs.BytesLaws.{starts_with_lem, with_start}
-use Rattle.decimal.proofs.FieldLaws.{field_read, read_field}
+use Rattle.decimal.proofs.FieldLaws.{field_read, read_field, field_splits}
 use Rattle.cnf.specs.Words.{zeros}
 use Rattle.dimacs.specs.Text.{head, space, body, header_line, text_of}
 use Rattle.dimacs.specs.Header.{comments, HeaderLine, variables_at, clauses_at, is_header, after_header}
@@ -49,9 +49,9 @@ module _ (text : List ℕ) (at : ℕ) where
   unfolding is_header
   header_line_lem h =
       let a = (and-eq-true_iff (has_at text at head) _).0 h in
-      let f = (and-eq-true_iff (field_at text (variables_at text at) space) _).0 a.1 in
-      let b = (and-eq-true_iff (variables_at text at).good _).0 f.0 in
-      let d = (and-eq-true_iff (clauses_at text at).good _).0 f.1 in
+      let f = (and-eq-true_iff (field_at text (reading_at text (at + 6)) space) _).0 a.1 in
+      let b = (and-eq-true_iff (decimal_at text (at + 6)) _).0 (sym (field_splits text (at + 6) space) ∙ f.0) in
+      let d = (and-eq-true_iff (decimal_at text ((variables_at text at).end + 1)) _).0 (sym (field_splits text ((variables_at text at).end + 1) line_feed) ∙ f.1) in
       let ds : List ℕ = run (drop (at + 6) text) in
       let es : List ℕ = run (drop ((variables_at text at).end + 1) text) in
       let rest : List ℕ = drop (after_header text at) text in

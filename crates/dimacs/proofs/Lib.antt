@@ -9,3 +9,4 @@ pub mod WriterLaws
 pub mod ReadLaws
 pub mod RoundTrip
 pub mod VerdictLaws
+pub mod NumberLaws

@@ -1,4 +1,5 @@
 -- Laws of a pass over the tokens of a text, from the left: what has been found up to a place. Assumes nothing.
+use Rattle.std.specs.Prelude.{Ok, Err}
 use mathlib.Core.Path.{◌≡◌, refl, sym, ap, ◌∙◌}
 use mathlib.Core.Bool.{true, false}
 use mathlib.Core.List.{List, [], ◌∷◌, ◌++◌, append_assoc, append-nil}
@@ -8,7 +9,6 @@ use lib.ListN.{length, get_or, drop}
 use borrow.Author.Tests.{le-ltb}
 use Rattle.lists.specs.Signed.{beyond}
 use Rattle.refusal.specs.Rules.{refusal, chain}
-use Rattle.refusal.specs.declared.Verdict.TheVariants.{Passed, Refused}
 use Rattle.refusal.proofs.RulesLaws.{passes}
 use Rattle.dimacs.specs.Tokens.{is_gap, lead, Token, formed, word_of, Good, words_of}
 use Rattle.dimacs.specs.Rules.{token_rules, tokens_from}
@@ -32,20 +32,20 @@ rules_append v [] us = refl
 rules_append v (t ∷ ts) us = rw (rules_append v ts us)
 
 -- the tokens before some have passed: the later ones decide
-pub on_to : (v : ℕ) (ts us : List Token) → chain (token_rules v ts) ≡ Passed → chain (token_rules v (ts ++ us)) ≡ chain (token_rules v us)
+pub on_to : (v : ℕ) (ts us : List Token) → chain (token_rules v ts) ≡ Ok tt → chain (token_rules v (ts ++ us)) ≡ chain (token_rules v us)
 on_to v ts us p = ap chain (rules_append v ts us) ∙ sym (passes (token_rules v ts) (token_rules v us) (sym p) refl refl)
 
-pub none_passed : (v : ℕ) → chain (token_rules v []) ≡ Passed
+pub none_passed : (v : ℕ) → chain (token_rules v []) ≡ Ok tt
 unfolding token_rules chain
 none_passed v = refl
 
 -- the first token decides
 module _ (v : ℕ) (t : Token) (ts : List Token) where
-  misformed_first : formed t.bytes ≡ false → chain (token_rules v (t ∷ ts)) ≡ Refused (refusal 18 t.start)
+  misformed_first : formed t.bytes ≡ false → chain (token_rules v (t ∷ ts)) ≡ Err (refusal 18 t.start)
   unfolding token_rules chain
   misformed_first f = rw f
 
-  beyond_first : formed t.bytes ≡ true → beyond v (word_of t.bytes) ≡ true → chain (token_rules v (t ∷ ts)) ≡ Refused (refusal 14 t.start)
+  beyond_first : formed t.bytes ≡ true → beyond v (word_of t.bytes) ≡ true → chain (token_rules v (t ∷ ts)) ≡ Err (refusal 14 t.start)
   unfolding token_rules chain
   beyond_first f b = rw (f, b)
 
@@ -59,7 +59,7 @@ module _ (v : ℕ) (t : Token) (ts : List Token) where
 pub record Behind (v : ℕ) (text : List ℕ) (from i : ℕ) : Type 0 where
   pub done : List Token
   pub split : tokens_from text from ≡ done ++ tokens_from text i
-  pub passed : chain (token_rules v done) ≡ Passed
+  pub passed : chain (token_rules v done) ≡ Ok tt
 
 module _ (v : ℕ) (text : List ℕ) (from : ℕ) where
   unfoldable pub over_none : Behind v text from from
@@ -76,10 +76,10 @@ module _ (v : ℕ) (text : List ℕ) (from : ℕ) where
       pub ahead : chain (token_rules v (tokens_from text from)) ≡ chain (token_rules v (here ∷ tokens_from text (i + length (lead (drop i text)))))
       ahead = ap (λ (ts : List Token). chain (token_rules v ts)) o.split ∙ on_to v o.done (tokens_from text i) o.passed ∙ ap (λ (ts : List Token). chain (token_rules v ts)) (token_at text i h g)
 
-      pub over_misformed : formed (lead (drop i text)) ≡ false → chain (token_rules v (tokens_from text from)) ≡ Refused (refusal 18 i)
+      pub over_misformed : formed (lead (drop i text)) ≡ false → chain (token_rules v (tokens_from text from)) ≡ Err (refusal 18 i)
       over_misformed f = ahead ∙ misformed_first v here _ f
 
-      pub over_beyond : formed (lead (drop i text)) ≡ true → beyond v (word_of (lead (drop i text))) ≡ true → chain (token_rules v (tokens_from text from)) ≡ Refused (refusal 14 i)
+      pub over_beyond : formed (lead (drop i text)) ≡ true → beyond v (word_of (lead (drop i text))) ≡ true → chain (token_rules v (tokens_from text from)) ≡ Err (refusal 14 i)
       over_beyond f b = ahead ∙ beyond_first v here _ f b
 
       -- one more, which ends at e

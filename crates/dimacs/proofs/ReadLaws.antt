@@ -1,4 +1,5 @@
 -- What an answer of `read_text` tells. Assumes nothing.
+use Rattle.std.specs.Prelude.{Ok}
 use mathlib.Core.Path.{◌≡◌, refl, ap}
 use mathlib.Core.Logic.{◌↔◌}
 use mathlib.Core.List.{List}
@@ -11,7 +12,6 @@ use Rattle.refusal.specs.Rules.{chain}
 use Rattle.refusal.specs.Said.{Said, result_of}
 use Rattle.refusal.specs.Table.{NoneDue, ExactlyWhen}
 use Rattle.refusal.specs.declared.Refusal.{Refusal}
-use Rattle.refusal.specs.declared.Verdict.TheVariants.{Passed}
 use Rattle.refusal.proofs.TableLaws.{passed_exactly}
 use Rattle.refusal.proofs.AnsweredLaws.{Told, told}
 use Rattle.cnf.specs.Encoded.{tally_said, tally_said_once}
@@ -39,7 +39,7 @@ module _ (text : List ℕ) (before : List ℤ) where
     read_keeps = tells.told_keeps
 
     -- "read" is answered with counts exactly when nothing is refused and the counts are those of the text's words, with V
-    pub read_passed : (t : Tally) → (answer.outcome ≡ Read t) ↔ ((chain (read_rules text (length before)) ≡ Passed) × (t ≡ tallied))
+    pub read_passed : (t : Tally) → (answer.outcome ≡ Read t) ↔ ((chain (read_rules text (length before)) ≡ Ok tt) × (t ≡ tallied))
     read_passed t =
         let w = tells.told_result (Read t) _ _ refl in (
           (λ q. let p = w.0 q in (p.0, tally_said_once t tallied (ap (λ (s : Said). s.values) p.1))),

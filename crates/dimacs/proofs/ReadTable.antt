@@ -1,4 +1,5 @@
 -- The reader's rules say what the reader's table says. Assumes nothing.
+use Rattle.std.specs.Prelude.{Some, Ok}
 use mathlib.Core.Path.{◌≡◌, refl, sym, ◌∙◌}
 use mathlib.Core.Bool.{not, true≢false}
 use mathlib.Core.List.Memᴰ
@@ -12,11 +13,9 @@ use borrow.Author.Tests.{ltb-true, ltb-false, le-ltb, not-true, not-false}
 use Rattle.lists.specs.Every.{Every}
 use Rattle.lists.specs.First.{found_if}
 use Rattle.lists.specs.Signed.{beyond}
-use Rattle.lists.specs.declared.Found.TheVariants.{At}
 use Rattle.lists.proofs.EveryLaws.{every_none, every_more}
 use Rattle.lists.proofs.FirstLaws.{Tests, if_none, tests_at, tests_held, tests_equal_at}
 use Rattle.refusal.specs.Rules.{chain}
-use Rattle.refusal.specs.declared.Verdict.TheVariants.{Passed}
 use Rattle.refusal.proofs.RulesLaws.{not_due}
 use Rattle.refusal.proofs.TableLaws.{Faithful, faithful_append}
 use Rattle.refusal.proofs.RoomLaws.{room_faithful}
@@ -35,7 +34,7 @@ GoodToken v t = Good v t.bytes
 
 -- ---- all tokens: every rule passes exactly when each token is well
 
-pub tokens_good : (v : ℕ) (ts : List Token) → chain (token_rules v ts) ≡ Passed → Every (GoodToken v) ts
+pub tokens_good : (v : ℕ) (ts : List Token) → chain (token_rules v ts) ≡ Ok tt → Every (GoodToken v) ts
 unfolding token_rules
 tokens_good v [] q = every_none (GoodToken v)
 tokens_good v (t ∷ ts) q =
@@ -43,7 +42,7 @@ tokens_good v (t ∷ ts) q =
     let q₁₄ = not_due 14 _ _ q₁₈.1 in
     every_more (GoodToken v) (record { is_formed = not-false _ (if_none _ _ q₁₈.0); in_range = ltb-false v (nat_abs (word_of t.bytes)) (if_none _ _ q₁₄.0) }) (tokens_good v ts q₁₄.1)
 
-pub good_tokens : (v : ℕ) (ts : List Token) → Every (GoodToken v) ts → chain (token_rules v ts) ≡ Passed
+pub good_tokens : (v : ℕ) (ts : List Token) → Every (GoodToken v) ts → chain (token_rules v ts) ≡ Ok tt
 unfolding token_rules chain
 good_tokens v [] g = refl
 good_tokens v (t ∷ ts) g =
@@ -51,7 +50,7 @@ good_tokens v (t ∷ ts) g =
     rw (w.is_formed, le-ltb v (nat_abs (word_of t.bytes)) w.in_range) (good_tokens v ts (λ x m. g x (Memᴰ.tail m)))
 
 -- and then so they do for more variables
-pub tokens_wider : (v w : ℕ) (ts : List Token) → v ≤ w → chain (token_rules v ts) ≡ Passed → chain (token_rules w ts) ≡ Passed
+pub tokens_wider : (v w : ℕ) (ts : List Token) → v ≤ w → chain (token_rules v ts) ≡ Ok tt → chain (token_rules w ts) ≡ Ok tt
 tokens_wider v w ts h q = good_tokens w ts (λ t m. let k = tokens_good v ts q t m in record { is_formed = k.is_formed; in_range = omega (arith, h, k.in_range) })
 
 -- ---- the rows of tokens, and those after them
@@ -76,7 +75,7 @@ module _ (text : List ℕ) where
       (λ e. let w = header_line_lem text (header_start text) (not-false _ e) in (w.0, w.1, w.2, w.3))
       (λ e l. true≢false (sym (line_header text (header_start text) l.0 l.1 l.2 l.3).is_header_lem ∙ not-true _ e))
 
-  header_row : (p : ℕ) → (found_if (not (is_header text (header_start text))) (header_start text) ≡ At p) ↔ ((p ≡ header_start text) × ((ds es rest : List ℕ) → HeaderLine (drop (header_start text) text) ds es rest → ⊥))
+  header_row : (p : ℕ) → (found_if (not (is_header text (header_start text))) (header_start text) ≡ Some p) ↔ ((p ≡ header_start text) × ((ds es rest : List ℕ) → HeaderLine (drop (header_start text) text) ds es rest → ⊥))
   header_row p = (
     (λ e. let w = (tests_header.at p).0 e in (w.0, λ ds es rest l. w.1 (ds, es, rest, l))),
     (λ w. (tests_header.at p).1 (w.0, λ l. w.1 l.0 l.1 l.2 l.3)),

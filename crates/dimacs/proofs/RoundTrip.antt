@@ -1,5 +1,6 @@
 -- Whatever `write_text` accepts, `read_text` gives back: the same words, the same V and the same clause count. Assumes
 -- nothing.
+use Rattle.std.specs.Prelude.{Ok}
 use mathlib.Core.Path.{◌≡◌, refl, sym, ◌∙◌, ap, subst}
 use mathlib.Core.Bool.{false}
 use mathlib.Core.List.{List}
@@ -12,7 +13,6 @@ use Rattle.lists.specs.Buffer.{over}
 use Rattle.lists.specs.Every.{Every}
 use Rattle.lists.proofs.EveryLaws.{in_entry}
 use Rattle.refusal.specs.Rules.{chain}
-use Rattle.refusal.specs.declared.Verdict.TheVariants.{Passed}
 use Rattle.refusal.proofs.RulesLaws.{passes}
 use Rattle.refusal.proofs.RoomLaws.{long_enough}
 use Rattle.decimal.specs.Digits.{digits}
@@ -69,18 +69,18 @@ module _ (v : ℕ) (ws : List ℤ) (w : WellWords v ws) where
   text_words_lem = ap words_of text_tokens_lem ∙ body_words (after_header text 0) ws small
 
   -- and no rule is due
-  header_passes : chain (header_rules text) ≡ Passed
+  header_passes : chain (header_rules text) ≡ Ok tt
   unfolding header_rules chain
   header_passes = rw (at_start (is_header text) ∙ says.is_header_lem, text_variables, text_clauses, fit_counts v (zeros ws) w.limits.counts)
 
-  tokens_pass : chain (token_rules (header_variables text) (text_tokens text)) ≡ Passed
+  tokens_pass : chain (token_rules (header_variables text) (text_tokens text)) ≡ Ok tt
   tokens_pass = rw (text_variables, text_tokens_lem) (body_passes v (after_header text 0) ws (omega (arith, w.limits.counts.variables)) ranged)
 
-  end_passes : (room : ℕ) → length ws ≤ room → chain (end_rules (length text) (header_clauses text) (text_words text) room) ≡ Passed
+  end_passes : (room : ℕ) → length ws ≤ room → chain (end_rules (length text) (header_clauses text) (text_words text) room) ≡ Ok tt
   unfolding end_rules chain
   end_passes room h = rw (text_words_lem, text_clauses, w.ends, eq-eqb (zeros ws) (zeros ws) refl) (long_enough (length ws) room h)
 
-  pub text_passes : (room : ℕ) → length ws ≤ room → chain (read_rules text room) ≡ Passed
+  pub text_passes : (room : ℕ) → length ws ≤ room → chain (read_rules text room) ≡ Ok tt
   unfolding read_rules
   text_passes room h =
       let later = passes (token_rules (header_variables text) (text_tokens text)) (end_rules (length text) (header_clauses text) (text_words text) room) (sym tokens_pass) refl (sym (end_passes room h)) in

@@ -13,11 +13,12 @@ use lib.IntN.{nat_abs}
 use lib.ListN.{length, get_or, drop, length-drop, drop_of_length-le}
 use lib.Seq.{drop-cons, drop-drop, drop-append_seam}
 use borrow.Author.Tests.{eq-eqb, ne_eqb}
+use Rattle.std.specs.Prelude.{Some}
 use Rattle.lists.specs.Every.{Every}
 use Rattle.lists.specs.Signed.{is_zero, beyond}
 use Rattle.lists.proofs.UptoLaws.{below_or_not}
 use Rattle.decimal.specs.Digits.{is_digit, all_digits, is_decimal, value}
-use Rattle.decimal.specs.Reading.{run, cut, reading_at}
+use Rattle.decimal.specs.Reading.{run, cut, digits_at, decimal_at, reading_at}
 use Rattle.decimal.specs.declared.Reading.{Reading}
 use Rattle.decimal.proofs.DigitsLaws.{digit_range, all_every}
 use Rattle.decimal.proofs.RunLaws.{run_split, run_digits, run_inside, cut_zero, cut_beyond}
@@ -168,14 +169,13 @@ unsigned_length (b ∷ bs) = go (eqb b 45)
 
 -- ---- how code judges a token
 
--- the token at i as code reads it: m says whether its first byte is a minus, its digits stand from `from` on, and r is their
--- reading
+-- the token at i as code reads it: m says whether its first byte is a minus, and r are its digits, which stand from `from` on
 pub record TokenAt (text : List ℕ) (i : ℕ) (m : Bool) (from : ℕ) (r : Reading) : Type 0 where
   pub inside : i < length text
   pub begins : is_gap (get_or text i 0) ≡ false
   pub signed : m ≡ eqb (get_or text i 0) 45
   pub past_sign : from ≡ i + cond m 1 0
-  pub reading : r ≡ reading_at text from
+  pub reading : r ≡ digits_at text from
 
 sign_short : (m : Bool) → cond m 1 0 ≤ 1
 sign_short true = omega arith
@@ -216,15 +216,19 @@ module _ {text : List ℕ} {i : ℕ} {m : Bool} {from : ℕ} {r : Reading} (k : 
       go true = rw (lead_at text i k.inside k.begins)
       go false = rw (add-zero i)
 
-  pub formed_as : formed (lead (drop i text)) ≡ (r.good && (ended (drop r.end text) && not (m && eqb r.value 0)))
+  pub formed_as : formed (lead (drop i text)) ≡ (decimal_at text from && (ended (drop r.end text) && not (m && eqb r.value 0)))
   unfolding formed
   formed_as = rw (k.reading, unsigned_is, has_minus_lem, ← drop-drop) (judged m (drop from text))
 
   module _ (f : formed (lead (drop i text)) ≡ true) where
+    -- a decimal is read there
+    pub formed_read : reading_at text from ≡ Some (digits_at text from)
+    formed_read = rw ((and-eq-true_iff (decimal_at text from) _).0 (sym formed_as ∙ f)).0
+
     -- the digits are all of it
     all_run : lead (drop from text) ≡ run (drop from text)
     all_run =
-        let e : ended (drop r.end text) ≡ true = ((and-eq-true_iff _ _).0 ((and-eq-true_iff r.good _).0 (sym formed_as ∙ f)).1).0 in
+        let e : ended (drop r.end text) ≡ true = ((and-eq-true_iff _ _).0 ((and-eq-true_iff (decimal_at text from) _).0 (sym formed_as ∙ f)).1).0 in
         lead_run (drop from text) (rw drop-drop (rw k.reading at e))
 
     pub formed_ends : i + length (lead (drop i text)) ≡ r.end
@@ -249,8 +253,8 @@ module _ {text : List ℕ} {i : ℕ} {m : Bool} {from : ℕ} {r : Reading} (k : 
 
 -- a token with a minus, and one without
 module _ (text : List ℕ) (i : ℕ) (inside : i < length text) (begins : is_gap (get_or text i 0) ≡ false) where
-  pub minus_token : get_or text i 0 ≡ 45 → TokenAt text i true (i + 1) (reading_at text (i + 1))
+  pub minus_token : get_or text i 0 ≡ 45 → TokenAt text i true (i + 1) (digits_at text (i + 1))
   minus_token e = record { inside = inside; begins = begins; signed = sym (eq-eqb (get_or text i 0) 45 e); past_sign = refl; reading = refl }
 
-  pub plain_token : (get_or text i 0 ≡ 45 → ⊥) → TokenAt text i false i (reading_at text i)
+  pub plain_token : (get_or text i 0 ≡ 45 → ⊥) → TokenAt text i false i (digits_at text i)
   plain_token e = record { inside = inside; begins = begins; signed = sym (ne_eqb (get_or text i 0) 45 e); past_sign = omega arith; reading = refl }

@@ -1,4 +1,5 @@
 -- What an answer of `write_text` tells. Assumes nothing.
+use Rattle.std.specs.Prelude.{Ok}
 use mathlib.Core.Path.{◌≡◌, refl, sym, ap, ◌∙◌}
 use mathlib.Core.Logic.{◌↔◌}
 use mathlib.Core.List.{List, [], ◌∷◌}
@@ -11,7 +12,6 @@ use Rattle.refusal.specs.Rules.{Rule, room_rule, chain}
 use Rattle.refusal.specs.Said.{Said, result_of}
 use Rattle.refusal.specs.Table.{room_row, ExactlyWhen}
 use Rattle.refusal.specs.declared.Refusal.{Refusal}
-use Rattle.refusal.specs.declared.Verdict.TheVariants.{Passed}
 use Rattle.refusal.proofs.RulesLaws.{passes, passed}
 use Rattle.refusal.proofs.TableLaws.{Faithful, faithful_append}
 use Rattle.refusal.proofs.RoomLaws.{room_faithful, long_enough, fits}
@@ -29,7 +29,7 @@ module _ (v : ℕ) (ws : List ℤ) where
   room_rules room = room_rule (length (text_of v ws)) room ∷ []
 
   -- every rule passes exactly when the words are well and the text fits
-  pub all_passed : (room : ℕ) → (chain (write_rules v ws room) ≡ Passed) ↔ (WellWords v ws × (length (text_of v ws) ≤ room))
+  pub all_passed : (room : ℕ) → (chain (write_rules v ws room) ≡ Ok tt) ↔ (WellWords v ws × (length (text_of v ws) ≤ room))
   all_passed room = (
     (λ q. let w = passed (word_rules v ws) (room_rules room) q in (words_well v ws w.0, fits (length (text_of v ws)) room w.1)),
     (λ w. sym (passes (word_rules v ws) (room_rules room) (sym (well_words v ws w.0)) refl (sym (long_enough (length (text_of v ws)) room w.1)))),

@@ -2,7 +2,7 @@
 use Rattle.std.specs.Prelude.{◌≡◌, Bool, true, false, cond, not, ◌&&◌, List, [], ◌∷◌, ◌++◌, ℕ, ◌+◌, eqb}
 use Rattle.decimal.specs.Digits.{is_decimal}
 use Rattle.decimal.specs.Bytes.{line_feed, has_at}
-use Rattle.decimal.specs.Reading.{reading_at, field_at}
+use Rattle.decimal.specs.Reading.{digits_at, reading_at, field_at}
 use Rattle.decimal.specs.declared.Reading.{Reading}
 use Rattle.dimacs.specs.Text.{head, space}
 
@@ -23,16 +23,16 @@ pub record HeaderLine (s ds es rest : List ℕ) : Type 0 where
 -- ---- the same as it is read
 
 module _ (text : List ℕ) (at : ℕ) where
-  -- V's decimal, and the clause count's
+  -- V's digits, and the clause count's
   abbrev pub variables_at : Reading
-  variables_at = reading_at text (at + 6)
+  variables_at = digits_at text (at + 6)
 
   abbrev pub clauses_at : Reading
-  clauses_at = reading_at text (variables_at.end + 1)
+  clauses_at = digits_at text (variables_at.end + 1)
 
   -- the line at `at` has the header's form
   unfoldable pub is_header : Bool
-  is_header = has_at text at head && (field_at text variables_at space && field_at text clauses_at line_feed)
+  is_header = has_at text at head && (field_at text (reading_at text (at + 6)) space && field_at text (reading_at text (variables_at.end + 1)) line_feed)
 
   -- where the tokens begin
   abbrev pub after_header : ℕ

@@ -5,6 +5,7 @@
 use cnf::Tally;
 use refusal::Refusal;
 
+// Stays: a project rule: an answer is an enum whose refusal case holds number and place, and a struct holds that.
 #[derive(Clone, Copy)]
 pub enum TextWritten {
     Written(usize),
@@ -16,6 +17,7 @@ pub struct WriteAnswer {
     pub outcome: TextWritten,
 }
 
+// Stays: a project rule: an answer is an enum whose refusal case holds number and place, and a struct holds that.
 #[derive(Clone, Copy)]
 pub enum TextRead {
     Read(Tally),

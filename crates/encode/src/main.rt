@@ -10,24 +10,13 @@ ghost use Rattle.std.specs.Io.{ReadsAtMost};
 ghost use Rattle.std.specs.Io.KnownBytes.{Appends, Consumes, IsAtEnd};
 ghost use Rattle.encode.specs.Program.{told_count, PrintedOn};
 
+use advice::Advice;
 use desk::DeskRun;
 use std::io;
 use std::io::{Read, Write};
 
 // One byte more than a file may have, so that a longer one is told from one that fits.
 const ROOM: usize = desk::INPUT + 1;
-
-fn no_input() -> [u8; ROOM]
-    ensures { length result ≡ 32769 }
-{
-    [0u8; ROOM]
-}
-
-fn no_output() -> [u8; desk::OUTPUT]
-    ensures { length result ≡ 73750 }
-{
-    [0u8; desk::OUTPUT]
-}
 
 // Reads until `buf` is full or the input ends, however the input is cut, and gives how many bytes it put at the front.
 fn read_full<R: Read>(from: &mut R, buf: &mut [u8]) -> io::Result<usize>
@@ -36,6 +25,7 @@ fn read_full<R: Read>(from: &mut R, buf: &mut [u8]) -> io::Result<usize>
     ensures end { IfOk result (λ n. n < length buf.new → IsAtEnd (R.remaining from.new)) }
 {
     let mut done = 0;
+    // Stays: nothing is on the heap, where `read_to_end` of std puts what it reads.
     while done < buf.len() {
         let n = from.read(&mut buf[done..])?;
         if n == 0 {
@@ -64,9 +54,9 @@ fn tell<W: Write, E: Write>(w: &mut W, err: &mut E, outcome: DeskRun, out: &[u8]
         DeskRun::Text(n) => print(w, out, n),
         DeskRun::Told(n, refusal) => {
             print(w, out, n)?;
-            advice::give(err, refusal)
+            write!(err, "{}", Advice(refusal))
         }
-        DeskRun::Refused(refusal) => advice::give(err, refusal),
+        DeskRun::Refused(refusal) => write!(err, "{}", Advice(refusal)),
     }
 }
 
@@ -75,12 +65,11 @@ fn tell<W: Write, E: Write>(w: &mut W, err: &mut E, outcome: DeskRun, out: &[u8]
 fn encode<R: Read, W: Write, E: Write>(from: &mut R, w: &mut W, err: &mut E) -> io::Result<()>
     ensures { OnOk result (IfSome (R.remaining from.old) (λ input. PrintedOn input (W.contents w.old) (W.contents w.new))) }
 {
-    let mut input = no_input();
+    let mut input = [0; ROOM];
     let n = read_full(from, &mut input)?;
-    let mut out = no_output();
+    let mut out = [0; desk::OUTPUT];
     let answer = desk_run::run(&input[..n], &mut out);
-    let outcome = answer.outcome;
-    tell(w, err, outcome, &out)
+    tell(w, err, answer.outcome, &out)
 }
 
 fn main(rt: HostRuntime) -> io::Result<()> {

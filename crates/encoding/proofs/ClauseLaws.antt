@@ -1,26 +1,29 @@
--- What an emitter promises, where it writes and where it does not; words as they are stored one by one; how long the pieces are
+-- What an emitter promises, where it writes and where it does not; words that are at hand; how long the pieces are
 -- that the emitters write, and the same clauses said by other numbers. Assumes nothing.
 use mathlib.Core.Path.{◌≡◌, refl, sym, ◌∙◌, ap}
-use mathlib.Core.Bool.{Bool, true, false, ◌&&◌}
+use mathlib.Core.Bool.{Bool, true, false, cond, ◌&&◌}
 use mathlib.Core.List.{List, [], ◌∷◌, ◌++◌}
-use Prim.Native.Nat.{ℕ, suc, ◌+◌, ◌*◌, ◌%◌, ◌≤◌, ◌<◌, ◌^◌}
+use Prim.Native.Nat.{ℕ, ◌+◌, ◌-◌, ◌*◌, ◌%◌, ◌≤◌, ◌<◌, ◌^◌}
 use native.Mathlib.Omega.{arith}
-use lib.ListN.{length, get_or, set}
+use lib.ListN.{length, get_or, set, drop, length-drop}
+use Rattle.std.proofs.lemmas.List.{length-take}
 use lib.IntN.{ℤ, pos, ◌-ℤ◌}
-use lib.Seq.{sets}
+use borrow.Rule.Slice.PartMut.{mid_of, put_mid}
 use mir.Syntax.{w32}
 use mir.Val.{of_z, to_z}
-use borrow.Author.Tests.{le-leb, lt-leb}
+use borrow.Author.Tests.{le-leb, lt-leb, leb-true}
+use lib.Dec.{leb}
 use Rattle.lists.specs.Upto.{up_to}
 use Rattle.lists.proofs.UptoLaws.{list_same, list_singles, sum_same, sum_const}
-use Rattle.lists.specs.Buffer.{Wrote, Front}
+use Rattle.lists.specs.Buffer.{over, Wrote, Front}
 use Rattle.lists.proofs.SignedLaws.{as_word, minus_back}
-use Rattle.lists.proofs.BufferLaws.{put, then, wrote_as, over_none, to_front}
+use Rattle.lists.proofs.BufferLaws.{put, then, wrote_as, over_none, to_front, part_room, front_in_part}
 use Rattle.cnf.specs.Clause.{Clause, plain, negated, words}
 use Rattle.cnf.proofs.WordsLaws.{words_none, words_one, words_append, words-up_to, length_more, length-up_to}
 use Rattle.diagram.specs.Numbers.{value_number, reference_number}
 use Rattle.clauses.specs.Clauses.{one_of, all_values, pair, units, t2to5, t1}
 use Rattle.encoding.specs.Emit.{edge_from, node_from, few, fitting, EmitPromise}
+use Rattle.encoding.specs.declared.Bases.{Bases}
 
 -- ---- what an emitter promises
 
@@ -56,19 +59,37 @@ module _ (n : ℕ) (ws l : List ℤ) where
     pub emits : {l' : List ℤ} {r : ℕ} → Wrote l 0 ws l' r → EmitPromise n ws l l' r
     emits a = rw all_fit (to_front k a)
 
+    -- over a part at the front that is as long as they are
+    pub emits_part : {xs : List ℤ} {r : ℕ} → xs ≡ ws → r ≡ length ws → EmitPromise n ws l (xs ++ drop r l) r
+    unfolding over
+    emits_part e q = rw (all_fit, e, q) (record { list = refl; next = refl })
+
     pub emitted : {l' : List ℤ} {r : ℕ} → EmitPromise n ws l l' r → Front l ws l' r
     emitted a = rw all_fit at a
 
--- ---- words as they are stored, and the literal of a variable's number as it is computed
+-- no more is written than there is room for
+fitting_within : (n room : ℕ) (ws : List ℤ) → length (fitting n room ws) ≤ room
+unfolding fitting
+fitting_within n room ws = go (few n) (leb (length ws) room) refl
+  where
+    go : (f b : Bool) → leb (length ws) room ≡ b → length (cond (f && b) ws []) ≤ room
+    go true true e = leb-true _ _ e
+    go true false e = omega arith
+    go false b e = omega arith
 
-pub stored : (l ws : List ℤ) → Wrote l 0 ws (sets l 0 ws) (length ws)
-stored l ws = record { list = refl; next = omega arith }
+pub within_part : (l : List ℤ) (at n : ℕ) (ws : List ℤ) {l' : List ℤ} {r : ℕ} → at ≤ length l → EmitPromise n ws (mid_of at (length l - at) l) l' r → at + r ≤ length l
+within_part l at n ws h a = omega (arith, a.next, fitting_within n (length (mid_of at (length l - at) l)) ws, length-take (length l - at) (drop at l), length-drop at l)
 
-pub three_stored : (l : List ℤ) (at : ℕ) (a b c : ℤ) → Wrote l at (a ∷ b ∷ c ∷ []) (set (set (set l at a) (at + 1) b) (at + 2) c) (at + 3)
-three_stored l at a b c =
-    let one : at + 1 ≡ suc at = omega arith in
-    let two : at + 2 ≡ suc (suc at) = omega arith in
-    record { list = rw (one, two); next = refl }
+-- words that are at hand, said in another way, and counted from few numbers
+pub few_enough : {n : ℕ} {xs ws l l' : List ℤ} {r : ℕ} → n ≤ 1000000 → xs ≡ ws → EmitPromise 0 xs l l' r → EmitPromise n ws l l' r
+unfolding fitting
+few_enough {n} h e a = rw (le-leb n 1000000 h) (rw e at a)
+
+-- ---- the literal of a variable's number as it is computed
+
+-- words that are at hand, written into a part
+pub put_words : (l : List ℤ) (at : ℕ) {xs ws l' : List ℤ} {r : ℕ} → xs ≡ ws → at + length ws ≤ length l → EmitPromise 0 xs (mid_of at (length l - at) l) l' r → Wrote l at ws (put_mid at (length l - at) l l') (at + r)
+put_words l at {ws = ws} e h a = front_in_part l at h (emitted 0 ws _ (omega arith) (part_room l at _ h) (few_enough (omega arith) e a))
 
 pub plain_word : (v : ℕ) {n : ℕ} → v ≡ n → n < 2 ^ 31 → to_z w32 v ≡ plain n
 plain_word v {n} e h = ap (to_z w32) e ∙ as_word n h
@@ -129,7 +150,7 @@ units_length D = refl
 
 -- ---- an edge's words
 
-edge_length : (e v m x : ℕ) → length (words (t2to5 e v m x)) ≡ 13
+pub edge_length : (e v m x : ℕ) → length (words (t2to5 e v m x)) ≡ 13
 unfolding words
 edge_length e v m x = refl
 
@@ -146,16 +167,12 @@ unfolding words
 t1_wrote v f k {l} {l₂} {w} {r} e a = then (wrote_as (put l 0 w) (ap (λ (z : ℤ). z ∷ []) e)) (then a (put l₂ r (pos 0)))
 
 -- its length
-module _ (node edge value reference : ℕ) (ts : List ℕ) where
-  pub edges_length : (k : ℕ) → length (words (up_to k (edge_from node edge value reference ts))) ≡ 13 * k
+module _ (b : Bases) (ts : List ℕ) where
+  pub edges_length : (k : ℕ) → length (words (up_to k (edge_from b ts))) ≡ 13 * k
   edges_length k =
-      length-up_to k (edge_from node edge value reference ts)
-      ∙ sum_same _ (λ j. 13) k (λ j l. edge_length (edge + j) node (reference + get_or ts j 0 % 1048576) (value + j))
+      length-up_to k (edge_from b ts)
+      ∙ sum_same _ (λ j. 13) k (λ j l. edge_length (b.edge + j) b.node (b.reference + get_or ts j 0 % 1048576) (b.value + j))
       ∙ sum_const 13 k
 
-  pub node_length : length (words (node_from node edge value reference ts)) ≡ 14 * length ts + 2
-  node_length = omega (arith, length_more (t1 node (λ j. edge + j) (length ts)) (up_to (length ts) (edge_from node edge value reference ts)), run_length (λ j. edge + j) (length ts), edges_length (length ts))
-
--- by other numbers
-pub node_same : (ts : List ℕ) {n e x r n' e' x' r' : ℕ} → n ≡ n' → e ≡ e' → x ≡ x' → r ≡ r' → words (node_from n e x r ts) ≡ words (node_from n' e' x' r' ts)
-node_same ts a b c d = rw (a, b, c, d)
+  pub node_length : length (words (node_from b ts)) ≡ 14 * length ts + 2
+  node_length = omega (arith, length_more (t1 b.node (λ j. b.edge + j) (length ts)) (up_to (length ts) (edge_from b ts)), run_length (λ j. b.edge + j) (length ts), edges_length (length ts))

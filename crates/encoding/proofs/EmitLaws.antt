@@ -21,6 +21,7 @@ use Rattle.diagram.proofs.NumberLaws.{value_sums, values_most, target_most}
 use Rattle.clauses.specs.Variables.{value_variable, reference_variable, node_variable, edge_variable, target_variable, asked_variable}
 use Rattle.clauses.specs.Clauses.{edition1, units, t2to5, t1, edge_clauses, node_clauses, option_clauses, clauses}
 use Rattle.encoding.specs.Emit.{edge_from, lent_node, lent_numbers}
+use Rattle.encoding.specs.declared.Bases.{Bases}
 use Rattle.encoding.proofs.ClauseLaws.{run_same}
 
 -- ---- the whole list
@@ -67,11 +68,14 @@ module _ (d : Lent) (s : Sound d) {D n : ℕ} (e_d : D ≡ values d) (en : n ≡
         edges_most d s.shaped (nodes d) (le_refl _),
       )
 
+  abbrev bases : Bases
+  bases = record { node = node_variable d v; edge = edge_number (values d) (nodes d) edge; value = value_variable d (asked d v) 0; reference = reference_variable d 0 }
+
   pub part_node : lent_node D n b edge part v ≡ node_clauses d v
   part_node =
       let two : v + 2 ≡ suc (suc v) = omega arith in
       rw (e_d, en, eb, as_wide, two)
-      (ap (λ (c : Clause). c ∷ up_to (width d v) (edge_from (node_variable d v) (edge_number (values d) (nodes d) edge) (value_variable d (asked d v) 0) (reference_variable d 0) part)) heads
+      (ap (λ (c : Clause). c ∷ up_to (width d v) (edge_from bases part)) heads
       ∙ ap (λ (cs : List Clause). t1 (node_variable d v) (edge_variable d v) (width d v) ∷ cs) (list_same _ _ (width d v) each))
     where
       heads : t1 (node_variable d v) (λ j. edge_number (values d) (nodes d) edge + j) (width d v) ≡ t1 (node_variable d v) (edge_variable d v) (width d v)
@@ -80,7 +84,7 @@ module _ (d : Lent) (s : Sound d) {D n : ℕ} (e_d : D ≡ values d) (en : n ≡
       same : {e m x e' m' x' : ℕ} → e ≡ e' → m ≡ m' → x ≡ x' → t2to5 e (node_variable d v) m x ≡ t2to5 e' (node_variable d v) m' x'
       same p q r = rw (p, q, r)
 
-      each : (j : ℕ) → j < width d v → edge_from (node_variable d v) (edge_number (values d) (nodes d) edge) (value_variable d (asked d v) 0) (reference_variable d 0) part j ≡ edge_clauses d v j
+      each : (j : ℕ) → j < width d v → edge_from bases part j ≡ edge_clauses d v j
       each j l =
           let p : edge_number (values d) (nodes d) edge + j ≡ edge_variable d v j = omega (arith, ee) in
           let q : reference_variable d 0 + get_or part j 0 % 1048576 ≡ target_variable d v j = omega (arith, part_leads j l) in

@@ -1,5 +1,6 @@
 -- What an answer of `encode` tells: each number is given exactly when its row of the table is due and none before it is;
 -- and the words are written exactly when the diagram is sound and they fit. Assumes nothing.
+use Rattle.std.specs.Prelude.{Ok}
 use mathlib.Core.Path.{◌≡◌, refl, sym}
 use mathlib.Core.Logic.{◌↔◌}
 use mathlib.Core.List.{List, [], ◌∷◌}
@@ -9,7 +10,6 @@ use lib.IntN.{ℤ}
 use Rattle.refusal.specs.Rules.{room_rule, chain}
 use Rattle.refusal.specs.Table.{room_row, ExactlyWhen}
 use Rattle.refusal.specs.declared.Refusal.{Refusal}
-use Rattle.refusal.specs.declared.Verdict.TheVariants.{Passed}
 use Rattle.refusal.proofs.RulesLaws.{passes, passed}
 use Rattle.refusal.proofs.TableLaws.{Faithful, faithful_append}
 use Rattle.refusal.proofs.RoomLaws.{room_faithful, long_enough, fits}
@@ -30,7 +30,7 @@ module _ (e : Edition) (d : Lent) where
   unfolding encode_rules
   encode_faithful room = faithful_append (check_rules d) (room_rule (needed e d) room ∷ []) (check_table d) (room_row (needed e d) room ∷ []) (check_faithful d) (λ _. room_faithful (needed e d) room)
 
-  pub all_passed : (room : ℕ) → (chain (encode_rules e d room) ≡ Passed) ↔ (Sound d × (needed e d ≤ room))
+  pub all_passed : (room : ℕ) → (chain (encode_rules e d room) ≡ Ok tt) ↔ (Sound d × (needed e d ≤ room))
   unfolding encode_rules
   all_passed room = (
     (λ q. let w = passed (check_rules d) (room_rule (needed e d) room ∷ []) q in (passed_sound d w.0, fits (needed e d) room w.1)),

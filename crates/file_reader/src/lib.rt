@@ -1,14 +1,20 @@
 // Reading a diagram file into three lent lists. Assumes nothing.
 #![tactic(auto)]
 
-ghost use Rattle.std.specs.Prelude.{◌≤◌, length};
+ghost use Rattle.std.specs.Prelude.{◌≡◌, ◌≤◌, length};
 ghost use Rattle.diagram.specs.Lent.{lent};
-ghost use Rattle.diagram_file.specs.Lines.{line_at};
 ghost use Rattle.diagram_file.specs.Promise.{FilePromise};
-ghost use Rattle.file_reader.specs.Filled.{PartFilled};
+ghost use Rattle.file_reader.specs.Filled.{line_or_none, PartFilled};
 
-use diagram_file::{DOMAIN, EDGES, FileAnswer, FileRead, LAYER, NODES, OPTIONS, Sizes, TO};
+use diagram_file::{EDGES, FileAnswer, FileRead, Line, NODES, OPTIONS, Part, Sizes};
 use refusal::Verdict;
+
+// The line that stands in the text at `at`; one of 0 where there is none, as in a file that is judged there is not.
+fn line_or_none(text: &[u8], at: usize, key: &[u8]) -> Line
+    ensures { result ≡ line_or_none text.now key.now at }
+{
+    file_lines::read_line(text, at, key).unwrap_or(Line { value: 0, next: 0 })
+}
 
 // How many values a part of the file has, and where the line after it begins.
 #[derive(Clone, Copy)]
@@ -17,27 +23,26 @@ struct Filled {
     next: usize,
 }
 
+// Stays with a text and a place in it: `place_after` counts from the text's beginning.
 // One part of the file: the line that says how many follow it, and the values of these, which fill the front of the list.
-fn fill_part(text: &[u8], at: usize, key: &[u8], later: &[u8], out: &mut [u32]) -> Filled
-    requires { (line_at text.now key.now at).value ≤ length out.old }
-    ensures { PartFilled text.now key.now later.now at out.old result out.new }
+fn fill_part(text: &[u8], at: usize, part: Part, out: &mut [u32]) -> Filled
+    requires { (line_or_none text.now part.key.now at).value ≤ length out.old }
+    ensures { PartFilled text.now part.key.now part.later.now at out.old result out.new }
 {
-    let head = file_lines::read_line(text, at, key);
+    let head = line_or_none(text, at, part.key);
     let count = head.value as usize;
-    let mut here = head.next;
-    let mut j: usize = 0;
-    while j < count {
-        let line = file_lines::read_line(text, here, later);
-        let value = line.value;
-        out[j] = value;
-        here = line.next;
-        j += 1;
+    let mut next = head.next;
+    for value in out[..count].iter_mut() {
+        let line = line_or_none(text, next, part.later);
+        *value = line.value;
+        next = line.next;
     }
-    Filled { count, next: here }
+    Filled { count, next }
 }
 
 // Checks 20 and 21 line by line, 21 for more options, nodes or edges than the lists have room for; the diagram's three lists
 // then fill the fronts of the lent ones, and the answer gives their lengths.
+// Stays with three lists: each is lent to be written.
 pub fn read_diagram(
     text: &[u8],
     domains: &mut [u32],
@@ -51,14 +56,14 @@ pub fn read_diagram(
         nodes: layers.len(),
         edges: targets.len(),
     };
-    if let Verdict::Refused(r) = file_judge::judge_file(text, most) {
+    if let Err(r) = file_judge::judge_file(text, most) {
         return FileAnswer {
             outcome: FileRead::Refused(r),
         };
     }
-    let options = fill_part(text, 0, &OPTIONS, &DOMAIN, domains);
-    let nodes = fill_part(text, options.next, &NODES, &LAYER, layers);
-    let edges = fill_part(text, nodes.next, &EDGES, &TO, targets);
+    let options = fill_part(text, 0, OPTIONS, domains);
+    let nodes = fill_part(text, options.next, NODES, layers);
+    let edges = fill_part(text, nodes.next, EDGES, targets);
     FileAnswer {
         outcome: FileRead::Read(Sizes {
             options: options.count,

@@ -5,30 +5,20 @@ ghost use Rattle.std.specs.Prelude.{◌≡◌, drop};
 ghost use Rattle.dimacs.specs.Tokens.{is_gap, ended};
 
 // Whether a byte parts tokens.
+#[tactic(auto, unfolding(dimacs::specs::Tokens::is_gap))]
 pub fn is_gap(b: u8) -> bool
     ensures { result ≡ is_gap b }
 {
-    if b' ' < b {
-        return false;
-    }
-    if b == b' ' {
-        return true;
-    }
-    if b == b'\t' {
-        return true;
-    }
-    if b == b'\r' {
-        return true;
-    }
-    b == b'\n'
+    matches!(b, b' ' | b'\t' | b'\r' | b'\n')
 }
 
 // Whether no token goes on at `at`.
+#[tactic(auto, using(crate::proofs::EndedLaws::ended_inside, crate::proofs::EndedLaws::ended_past))]
 pub fn is_ended(text: &[u8], at: usize) -> bool
     ensures { result ≡ ended (drop at text.now) }
 {
-    if at < text.len() {
-        return is_gap(text[at]);
+    match text.get(at) {
+        None => true,
+        Some(b) => is_gap(*b),
     }
-    true
 }

@@ -1,5 +1,6 @@
 -- The judge's rules say what its table says, and where all have passed the answer is whether the diagram allows the
 -- build. Assumes nothing.
+use Rattle.std.specs.Prelude.{Ok, Err}
 use mathlib.Core.Path.{◌≡◌, refl, sym, ◌∙◌, ap}
 use mathlib.Core.Bool.{Bool, true, false, not, cond}
 use mathlib.Core.List.{List, [], ◌∷◌}
@@ -11,12 +12,10 @@ use lib.Dec.{eqb}
 use borrow.Author.Tests.{leb-true, leb-false, eqb-true, eqb-false, eq-eqb, ne_eqb}
 use Rattle.lists.specs.First.{found_if, first, FirstFailing}
 use Rattle.lists.proofs.FirstLaws.{Tests, tests_each, tests_equal}
-use Rattle.refusal.specs.Rules.{chain}
+use Rattle.refusal.specs.Rules.{Verdict, chain}
 use Rattle.refusal.specs.Said.{Said, result_of, saying}
 use Rattle.refusal.specs.Table.{ExactlyWhen}
 use Rattle.refusal.specs.declared.Refusal.{Refusal}
-use Rattle.refusal.specs.declared.Verdict.{Verdict}
-use Rattle.refusal.specs.declared.Verdict.TheVariants.{Passed, Refused as Refusing}
 use Rattle.refusal.proofs.RulesLaws.{refuses, passes, passed, not_due}
 use Rattle.refusal.proofs.SaidLaws.{refused_as, said_passed}
 use Rattle.refusal.proofs.TableLaws.{Faithful, faithful_append, exactly_when}
@@ -49,17 +48,17 @@ module _ (d : Lent) (build : List ℕ) where
   unfolding judge_rules
   judge_faithful = faithful_append (check_rules d) (build_rules d build) (check_table d) (build_table d build) (check_faithful d) (λ _. build_faithful)
 
-  pub passed_fits : chain (build_rules d build) ≡ Passed → Fits d build
+  pub passed_fits : chain (build_rules d build) ≡ Ok tt → Fits d build
   unfolding build_rules
   passed_fits e =
       let r = not_due 8 (found_if (not (eqb (length build) (options d))) 0) _ e in
       record { whole = tests_8.none.0 r.0; in_domain = tests_9.none.0 (not_due 9 (first (bad_value d build) (options d)) [] r.1).0 }
 
-  fits_passed : Fits d build → chain (build_rules d build) ≡ Passed
+  fits_passed : Fits d build → chain (build_rules d build) ≡ Ok tt
   unfolding build_rules chain
   fits_passed f = rw (tests_8.none.1 f.whole, tests_9.none.1 f.in_domain)
 
-  all_passed : (chain (judge_rules d build) ≡ Passed) ↔ (Sound d × Fits d build)
+  all_passed : (chain (judge_rules d build) ≡ Ok tt) ↔ (Sound d × Fits d build)
   unfolding judge_rules
   all_passed = (
     (λ e. let w = passed (check_rules d) (build_rules d build) e in (passed_sound d w.0, passed_fits w.1)),
@@ -68,11 +67,11 @@ module _ (d : Lent) (build : List ℕ) where
 
   -- ---- how `judge` comes to its answer: the diagram is refused, or it has passed and the build is judged
 
-  pub judge_refuses : (r : Refusal) → chain (check_rules d) ≡ Refusing r → JudgePromise d build (record { outcome = Refused r })
+  pub judge_refuses : (r : Refusal) → chain (check_rules d) ≡ Err r → JudgePromise d build (record { outcome = Refused r })
   unfolding judge_rules
   judge_refuses r e = record { says = rw (sym (refuses (check_rules d) (build_rules d build) refl e) ∙ e) }
 
-  pub judge_goes_on : (answer : JudgeAnswer) → chain (check_rules d) ≡ Passed → JudgedBy (build_rules d build) d build answer → JudgePromise d build answer
+  pub judge_goes_on : (answer : JudgeAnswer) → chain (check_rules d) ≡ Ok tt → JudgedBy (build_rules d build) d build answer → JudgePromise d build answer
   unfolding judge_rules
   judge_goes_on answer e j = record { says = j.says ∙ ap (λ (v : Verdict). saying v (cond (allows_test d build) 1 0 ∷ [])) (passes (check_rules d) (build_rules d build) refl e refl) }
 
@@ -81,16 +80,16 @@ module _ (d : Lent) (build : List ℕ) where
   answer_says false = refl
 
   -- of a sound diagram: the build is refused, or it has passed and its walk decides
-  pub build_refused : (r : Refusal) → chain (build_rules d build) ≡ Refusing r → JudgedBy (build_rules d build) d build (record { outcome = Refused r })
+  pub build_refused : (r : Refusal) → chain (build_rules d build) ≡ Err r → JudgedBy (build_rules d build) d build (record { outcome = Refused r })
   build_refused r e = record { says = rw e }
 
-  pub build_walked : (answer : JudgeAnswer) (b : Bool) → chain (build_rules d build) ≡ Passed → b ≡ allows_test d build → answer ≡ answer_of b → JudgedBy (build_rules d build) d build answer
+  pub build_walked : (answer : JudgeAnswer) (b : Bool) → chain (build_rules d build) ≡ Ok tt → b ≡ allows_test d build → answer ≡ answer_of b → JudgedBy (build_rules d build) d build answer
   build_walked answer b e t q = record { says = ap (λ (a : JudgeAnswer). judge_said a.outcome) q ∙ answer_says b ∙ rw (e, ← t) }
 
   -- ---- what an answer of `judge` tells
 
   module _ (answer : JudgeAnswer) (promise : JudgePromise d build answer) where
-    refused_exactly : (r : Refusal) → (answer.outcome ≡ Refused r) ↔ (chain (judge_rules d build) ≡ Refusing r)
+    refused_exactly : (r : Refusal) → (answer.outcome ≡ Refused r) ↔ (chain (judge_rules d build) ≡ Err r)
     refused_exactly = refused_as judge_said judge_said_once Refused (λ r. refl) answer.outcome (chain (judge_rules d build)) _ _ promise.says
 
     -- each of the numbers 1 to 6, 8 and 9 is given exactly when its row is due and none before it is

@@ -3,7 +3,7 @@
 
 ghost use Rattle.std.specs.Prelude.{◌≡◌};
 ghost use Rattle.decimal.specs.Bytes.{has_at};
-ghost use Rattle.decimal.specs.Reading.{field_at};
+ghost use Rattle.decimal.specs.Reading.{field_of};
 
 use decimal::Reading;
 
@@ -11,31 +11,12 @@ use decimal::Reading;
 pub fn has(text: &[u8], at: usize, key: &[u8]) -> bool
     ensures { result ≡ has_at text.now at key.now }
 {
-    if key.len() == 0 {
-        return true;
-    }
-    if text.len() < at {
-        return false;
-    }
-    if text.len() - at < key.len() {
-        return false;
-    }
-    let mut k = 0;
-    while k < key.len() {
-        if text[at + k] != key[k] {
-            return false;
-        }
-        k += 1;
-    }
-    true
+    text.get(at..).unwrap_or(&[]).starts_with(key)
 }
 
-// Whether digits that were read are a decimal, with the byte `last` after them.
-pub fn is_field(text: &[u8], read: Reading, last: u8) -> bool
-    ensures { result ≡ field_at text.now read last }
+// The decimal that was read, where the byte `last` follows it.
+pub fn field(text: &[u8], read: Option<Reading>, last: u8) -> Option<Reading>
+    ensures { result ≡ field_of text.now read last }
 {
-    if read.good {
-        return has(text, read.end, &[last]);
-    }
-    false
+    read.filter(|read| has(text, read.end, &[last]))
 }

@@ -8,29 +8,19 @@ ghost use Rattle.diagram.specs.Lent.{lent};
 ghost use Rattle.diagram.specs.Rules.{breaks_rule, bad_layer};
 
 use diagram::Diagram;
-use lists::Found;
 
 // A node after the root breaks the layers' rule: its layer is `layer`, that of the node before it `before`.
 fn breaks(options: u32, before: u32, layer: u32) -> bool
     ensures { result ≡ breaks_rule options before layer }
 {
-    if layer < 2 {
-        return true;
-    }
-    if options < layer {
-        return true;
-    }
-    layer < before
+    layer < 2 || options < layer || layer < before
 }
 
 // How many options there are, cut at the largest number that a layer can be.
 fn options_of(domains: &[u32]) -> u32
     ensures { result ≡ min 4294967295 (length domains.now) }
 {
-    if domains.len() < 4294967295 {
-        return domains.len() as u32;
-    }
-    4294967295
+    u32::try_from(domains.len()).unwrap_or(u32::MAX)
 }
 
 fn is_bad_layer(domains: &[u32], layers: &[u32], v: usize) -> bool
@@ -50,42 +40,39 @@ fn count_bad_layers(domains: &[u32], layers: &[u32]) -> u32
 {
     let options = options_of(domains);
     let mut n: u32 = 0;
-    let mut j = 0;
-    while j + 1 < layers.len() {
-        if breaks(options, layers[j], layers[j + 1]) {
+    for v in 1..layers.len() {
+        if breaks(options, layers[v - 1], layers[v]) {
             n += 1;
         }
-        j += 1;
     }
     n
 }
 
-fn search_bad_layer(domains: &[u32], layers: &[u32]) -> Found
+#[tactic(auto, using(lists::proofs::FirstLaws::start, lists::proofs::FirstLaws::stop, lists::proofs::FirstLaws::pass))]
+fn search_bad_layer(domains: &[u32], layers: &[u32]) -> Option<usize>
     ensures { result ≡ first (bad_layer (lent domains.now layers.now [])) (length layers.now) }
 {
-    let mut v = 0;
-    while v < layers.len() {
+    for v in 0..layers.len() {
         if is_bad_layer(domains, layers, v) {
-            return Found::At(v);
+            return Some(v);
         }
-        v += 1;
     }
-    Found::Nothing
+    None
 }
 
 // The first bad layer: searched for only where the root's is bad, or the count is not 0, or there are not as many nodes as a
 // diagram may have.
-pub fn first_bad_layer(domains: &[u32], layers: &[u32]) -> Found
+pub fn first_bad_layer(domains: &[u32], layers: &[u32]) -> Option<usize>
     ensures { result ≡ first (bad_layer (lent domains.now layers.now [])) (length layers.now) }
 {
     if option_check::is_outside(1, Diagram::MAX_NODES as usize, layers.len()) {
         return search_bad_layer(domains, layers);
     }
     if is_bad_layer(domains, layers, 0) {
-        return Found::At(0);
+        return Some(0);
     }
     if count_bad_layers(domains, layers) == 0 {
-        return Found::Nothing;
+        return None;
     }
     search_bad_layer(domains, layers)
 }

@@ -1,16 +1,19 @@
 -- How `layer_end` and `layer_edges` come to their answers. Assumes nothing.
+use Rattle.std.specs.Prelude.{Option, Some, None}
 use mathlib.Core.Path.{◌≡◌, sym, ap, ◌∙◌}
 use mathlib.Core.Bool.{false, not}
 use mathlib.Core.List.{List}
 use Prim.Native.Nat.{ℕ, ◌+◌, ◌-◌, ◌*◌, ◌≤◌, ◌<◌}
 use native.Mathlib.Omega.{arith}
-use lib.ListN.{length, get_or, get_or-eq_default}
+use lib.ListN.{length, take, get_or, get_or-eq_default, drop}
+use lib.Seq.{get_or-take, get_or-drop}
+use native.Mathlib.Nat.{le_refl}
+use Rattle.diagram.proofs.RangeLaws.{part_length}
 use lib.Dec.{ltb}
-use borrow.Author.Tests.{lt-ltb, le-ltb, le-leb, lt-leb}
+use borrow.Author.Tests.{le-leb, lt-leb}
 use Rattle.lists.specs.First.{first}
-use Rattle.lists.specs.declared.Found.TheVariants.{Nothing}
-use Rattle.lists.proofs.FirstLaws.{start, pass, stop, done}
-use Rattle.layer_ends.specs.Layers.{low_eight, past_eights, layer_end, layer_edges}
+use Rattle.lists.proofs.FirstLaws.{start, pass, stop, first_agrees, found_least}
+use Rattle.layer_ends.specs.Layers.{place_or, low_eight, past_eights, layer_end, layer_edges}
 
 -- ---- eight at a time
 
@@ -19,7 +22,7 @@ pub record Skipping (ls : List ℕ) (from i v : ℕ) : Type 0 where
   pub k : ℕ
   pub place : v ≡ from + 8 * k
   pub inside : v ≤ length ls
-  pub low : first (λ j. not (low_eight ls from i j)) k ≡ Nothing
+  pub low : first (λ j. not (low_eight ls from i j)) k ≡ None
 
 pub skip_none : (ls : List ℕ) (from i : ℕ) → from ≤ length ls → Skipping ls from i from
 skip_none ls from i h = record { k = 0; place = omega arith; inside = h; low = start _ }
@@ -49,43 +52,24 @@ module _ {ls : List ℕ} {from i v : ℕ} (s : Skipping ls from i v) where
   pub skip_end : length ls < v + 8 → v ≡ past_eights ls from i
   skip_end h = let e : from + 8 * s.k + 8 ≡ v + 8 = omega (arith, s.place) in stops (rw (e, lt-leb (v + 8) (length ls) h))
 
--- ---- one at a time
+-- ---- and then one at a time
 
--- from `start` to before v no layer is above i
-pub record Stepping (ls : List ℕ) (i start v : ℕ) : Type 0 where
-  pub from_on : start ≤ v
-  pub to_last : v ≤ length ls
-  pub none : first (λ j. ltb i (get_or ls (start + j) 0)) (v - start) ≡ Nothing
+module _ (ls : List ℕ) (from i at : ℕ) (h : from ≤ length ls) (p : at ≡ past_eights ls from i) {f : Option ℕ} (found : f ≡ first (λ (j : ℕ). ltb i (get_or (take (length ls - at) (drop at ls)) j 0)) (length (take (length ls - at) (drop at ls)))) where
+  ends : at + place_or (length ls - at) f ≡ layer_end ls from i
+  unfolding layer_end
+  ends =
+      let n = part_length ls at (length ls) (le_refl _) in
+      let e = found ∙ first_agrees _ (λ j. ltb i (get_or ls (at + j) 0)) (length (take (length ls - at) (drop at ls))) (λ j k. ap (ltb i) (get_or-take (length ls - at) (drop at ls) j 0 (omega (arith, k, n)) ∙ get_or-drop at ls j 0)) ∙ ap (first (λ j. ltb i (get_or ls (at + j) 0))) n in
+      rw (le-leb from (length ls) h, ← p, ← e)
 
-pub step_none : (ls : List ℕ) (i start : ℕ) → start ≤ length ls → Stepping ls i start start
-step_none ls i at h = let e : at - at ≡ 0 = omega arith in record { from_on = omega arith; to_last = h; none = rw e (start _) }
+  pub ends_within : {k : ℕ} → at ≤ length ls → f ≡ Some k → at + k < length ls
+  ends_within l e = omega (arith, l, part_length ls at (length ls) (le_refl _), found_least (λ (j : ℕ). ltb i (get_or (take (length ls - at) (drop at ls)) j 0)) _ _ (sym found ∙ e))
 
-module _ {ls : List ℕ} {i at v : ℕ} (s : Stepping ls i at v) where
-  is_v : at + (v - at) ≡ v
-  is_v = omega (arith, s.from_on)
+  pub ends_above : {k : ℕ} → f ≡ Some k → at + k ≡ layer_end ls from i
+  ends_above e = rw e at ends
 
-  pub step_more : v < length ls → get_or ls v 0 ≤ i → Stepping ls i at (v + 1)
-  step_more h l =
-      let e : v + 1 - at ≡ v - at + 1 = omega (arith, s.from_on) in
-      record {
-        from_on = omega (arith, s.from_on);
-        to_last = omega arith;
-        none = rw e (pass (λ j. ltb i (get_or ls (at + j) 0)) (v - at) s.none (rw (is_v, le-ltb i (get_or ls v 0) l)));
-      }
-
-  module _ (from : ℕ) (h : from ≤ length ls) (p : at ≡ past_eights ls from i) where
-    pub step_above : v < length ls → i < get_or ls v 0 → v ≡ layer_end ls from i
-    unfolding layer_end
-    step_above k l =
-        let q = stop (λ j. ltb i (get_or ls (at + j) 0)) (v - at) (length ls - at) s.none (rw (is_v, lt-ltb i (get_or ls v 0) l)) (omega (arith, s.from_on)) in
-        sym is_v ∙ rw (le-leb from (length ls) h, ← p, ← q)
-
-    pub step_end : length ls ≤ v → v ≡ layer_end ls from i
-    unfolding layer_end
-    step_end k =
-        let q = done (λ j. ltb i (get_or ls (at + j) 0)) (v - at) (length ls - at) s.none (omega (arith, s.to_last)) (omega arith) in
-        let e : v ≡ at + (length ls - at) = omega (arith, s.from_on, s.to_last) in
-        e ∙ rw (le-leb from (length ls) h, ← p, ← q)
+  pub ends_last : at ≤ length ls → f ≡ None → length ls ≡ layer_end ls from i
+  ends_last l e = let q : length ls ≡ at + (length ls - at) = omega (arith, l) in q ∙ rw e at ends
 
 -- past the list's end
 pub past_end : (ls : List ℕ) (from i : ℕ) → length ls < from → from ≡ layer_end ls from i

@@ -1,5 +1,6 @@
 -- Where layers never fall, `layer_end` gives the first node above the layer; a layer's nodes, and their edges, then stand in one
 -- stretch. Assumes nothing.
+use Rattle.std.specs.Prelude.{Option, Some, None}
 use mathlib.Core.Path.{◌≡◌, refl, sym, ◌∙◌, ap, subst}
 use mathlib.Core.Bool.{Bool, true, false, not, and-eq-true_iff}
 use mathlib.Core.List.{List}
@@ -12,8 +13,6 @@ use lib.Dec.{ltb, leb}
 use borrow.Author.Tests.{le-leb, leb-true, ltb-true, ltb-false, not-false}
 use Rattle.lists.specs.Upto.{sum_to}
 use Rattle.lists.specs.First.{first}
-use Rattle.lists.specs.declared.Found.{Found}
-use Rattle.lists.specs.declared.Found.TheVariants.{Nothing, At}
 use Rattle.lists.proofs.UptoLaws.{below_or_not, sum_stretch}
 use Rattle.lists.proofs.FirstLaws.{none_bad, found_least}
 use Rattle.diagram.specs.Lent.{Lent, nodes, domain, layer, width, first_edge}
@@ -49,9 +48,9 @@ module _ (ls : List ℕ) (from i : ℕ) (rise : Rising ls) (h : from ≤ length 
   unfolding past_eights
   past = go (first (λ k. not (low_eight ls from i k)) (length ls + 1)) refl
     where
-      go : (f : Found) → first (λ k. not (low_eight ls from i k)) (length ls + 1) ≡ f → NoneAbove ls from i (from + 8 * place_or 0 f)
-      go (At b) e = eights b (λ k l. not-false _ ((found_least (λ k. not (low_eight ls from i k)) (length ls + 1) b e).2 k l))
-      go Nothing e = eights 0 (λ k l. absurd (omega arith))
+      go : (f : Option ℕ) → first (λ k. not (low_eight ls from i k)) (length ls + 1) ≡ f → NoneAbove ls from i (from + 8 * place_or 0 f)
+      go (Some b) e = eights b (λ k l. not-false _ ((found_least (λ k. not (low_eight ls from i k)) (length ls + 1) b e).2 k l))
+      go None e = eights 0 (λ k l. absurd (omega arith))
 
   layer_ends : LayerEnd ls from i (layer_end ls from i)
   unfolding layer_end
@@ -68,9 +67,9 @@ module _ (ls : List ℕ) (from i : ℕ) (rise : Rising ls) (h : from ≤ length 
       upto n l f =
           some_more (at + n) past (omega arith) (omega (arith, past.to_last)) (λ u p q. let e : at + (u - at) ≡ u = omega arith in rw e at (ltb-false i (get_or ls (at + (u - at)) 0) (f (u - at) (omega arith))))
 
-      go : (f : Found) → first above (length ls - at) ≡ f → LayerEnd ls from i (at + place_or (length ls - at) f)
-      go (At j) e = let w = found_least above (length ls - at) j e in record { none_above = upto j (omega (arith, w.0)) w.2; above = λ _. ltb-true i (get_or ls (at + j) 0) w.1 }
-      go Nothing e = record { none_above = upto (length ls - at) (le_refl _) (none_bad above (length ls - at) e); above = λ l. absurd (omega (arith, past.to_last)) }
+      go : (f : Option ℕ) → first above (length ls - at) ≡ f → LayerEnd ls from i (at + place_or (length ls - at) f)
+      go (Some j) e = let w = found_least above (length ls - at) j e in record { none_above = upto j (omega (arith, w.0)) w.2; above = λ _. ltb-true i (get_or ls (at + j) 0) w.1 }
+      go None e = record { none_above = upto (length ls - at) (le_refl _) (none_bad above (length ls - at) e); above = λ l. absurd (omega (arith, past.to_last)) }
 
 -- in a diagram that has its shape
 pub ends_layer : (d : Lent) → Shaped d → (from i end : ℕ) → from ≤ nodes d → end ≡ layer_end d.layers from i → LayerEnd d.layers from i end

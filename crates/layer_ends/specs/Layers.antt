@@ -1,16 +1,14 @@
 -- Where a layer ends, and how many edges its nodes have, as they are computed for every list; and where a layer ends in a list
 -- in which layers never fall. Assumes nothing.
-use Rattle.std.specs.Prelude.{Bool, not, cond, ◌&&◌, List, ℕ, ◌+◌, ◌-◌, ◌*◌, ◌≤◌, ◌<◌, length, get_or, ltb, leb}
+use Rattle.std.specs.Prelude.{Bool, not, cond, ◌&&◌, List, ℕ, ◌+◌, ◌-◌, ◌*◌, ◌≤◌, ◌<◌, length, get_or, ltb, leb, Option, Some, None}
 use Rattle.lists.specs.First.{first}
-use Rattle.lists.specs.declared.Found.{Found}
-use Rattle.lists.specs.declared.Found.TheVariants.{Nothing, At}
 
 -- ---- as it is computed
 
 -- the place that was found, or n where there is none
-abbrev pub place_or : ℕ → Found → ℕ
-place_or n (At k) = k
-place_or n Nothing = n
+abbrev pub place_or : ℕ → Option ℕ → ℕ
+place_or n (Some k) = k
+place_or n None = n
 
 module _ (ls : List ℕ) (from i : ℕ) where
   -- of the nodes from `from` on, eight at a time: the k-th eight are all there, and the last of them has a layer of at most i

@@ -2,7 +2,8 @@
 // diagram the answers are stated too. Assumes nothing.
 #![tactic(auto)]
 
-ghost use Rattle.std.specs.Prelude.{◌≡◌, ◌≤◌, length};
+ghost use Rattle.std.specs.Prelude.{◌≡◌, ◌≤◌, ℕ, length, ltb, slice_index};
+ghost use Rattle.lists.specs.First.{first};
 ghost use Rattle.layer_ends.specs.Layers.{past_eights, layer_end, layer_edges};
 
 use diagram::Diagram;
@@ -13,6 +14,7 @@ fn skip_ahead(layers: &[u32], from: usize, layer: u32) -> usize
     ensures { (result ≡ past_eights layers.now from layer) × (result ≤ length layers.now) }
 {
     let mut v = from;
+    // Stays: of each eight it looks at the last alone, and gives the place where it stops.
     while 8 <= layers.len() - v {
         if layer < layers[v + 7] {
             return v;
@@ -22,6 +24,12 @@ fn skip_ahead(layers: &[u32], from: usize, layer: u32) -> usize
     v
 }
 
+fn first_above(layers: &[u32], layer: u32) -> Option<usize>
+    ensures { result ≡ first (λ (j : ℕ). ltb layer (slice_index layers.now j)) (length layers.now) }
+{
+    layers.iter().position(|l| layer < *l)
+}
+
 // The first node from `from` on whose layer is above `layer`, where layers never fall.
 pub fn layer_end(layers: &[u32], from: usize, layer: u32) -> usize
     ensures { result ≡ layer_end layers.now from layer }
@@ -29,14 +37,11 @@ pub fn layer_end(layers: &[u32], from: usize, layer: u32) -> usize
     if layers.len() < from {
         return from;
     }
-    let mut v = skip_ahead(layers, from, layer);
-    while v < layers.len() {
-        if layer < layers[v] {
-            return v;
-        }
-        v += 1;
+    let start = skip_ahead(layers, from, layer);
+    match first_above(&layers[start..], layer) {
+        Some(k) => start + k,
+        None => layers.len(),
     }
-    v
 }
 
 // How many edges so many nodes of a layer have.

@@ -11,30 +11,26 @@ fn ends_of(domains: &[u32], layer: u32) -> u32
     ensures { result ≡ cond (eqb layer (length domains.now)) 2 1 }
 {
     if layer as usize == domains.len() {
-        return 2;
+        2
+    } else {
+        1
     }
-    1
 }
 
 fn next_layer(layer: u32) -> u32
     ensures { result ≡ cut (layer + 1) }
 {
-    if layer < 4294967295 {
-        return layer + 1;
-    }
-    4294967295
+    layer.saturating_add(1)
 }
 
 fn reference_of(node: usize) -> u32
     ensures { result ≡ cut (node + 2) }
 {
-    if node < 4294967293 {
-        return node as u32 + 2;
-    }
-    4294967295
+    u32::try_from(node).unwrap_or(u32::MAX).saturating_add(2)
 }
 
 // The references that edges of a layer may lead to, where the next layer's nodes begin at `next`.
+#[tactic(auto, unfolding(crate::specs::Ranges::range_by))]
 pub fn range_of(domains: &[u32], layers: &[u32], layer: u32, next: usize) -> Range
     ensures { result ≡ range_by domains.now layers.now layer next }
 {

@@ -14,8 +14,5 @@ pub const MAX_WORDS: usize = 100000000;
 pub fn too_many(variables: u64, clauses: u64) -> bool
     ensures { result ≡ too_many variables clauses }
 {
-    if (MAX_VARIABLES as u64) < variables {
-        return true;
-    }
-    (MAX_CLAUSES as u64) < clauses
+    (MAX_VARIABLES as u64) < variables || (MAX_CLAUSES as u64) < clauses
 }

@@ -6,3 +6,6 @@ pub mod FirstLaws
 pub mod BufferLaws
 pub mod SignedLaws
 pub mod AnswerLaws
+pub mod IterLaws
+pub mod FoldLaws
+pub mod FoundLaws

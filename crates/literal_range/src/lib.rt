@@ -2,72 +2,45 @@
 // variable alone, and knows no diagram. Assumes nothing.
 #![tactic(auto)]
 
-ghost use Rattle.std.specs.Prelude.{◌≡◌, ◌≤◌, min, length};
-ghost use Rattle.lists.specs.Upto.{count_to};
+ghost use Rattle.std.specs.Prelude.{◌≡◌, ◌||◌, false, fold, min, length, position};
 ghost use Rattle.lists.specs.First.{first};
 ghost use Rattle.literals.specs.Literals.{bad_literal, bad_at};
 
-use lists::Found;
-
 // No literal names a larger variable but -2147483648, which has no negation.
-const LARGEST: u32 = 2147483647;
+const LARGEST: u32 = i32::MAX as u32;
 
-// The literal is compared at both ends, and not negated.
+#[tactic(auto, unfolding(lists::specs::Signed::is_zero))]
 fn is_bad_literal(literal: i32, last: u32) -> bool
-    requires { last ≤ 2147483647 }
     ensures { result ≡ bad_literal last literal }
 {
-    let top = last as i32;
-    if literal == 0 {
-        return true;
-    }
-    if top < literal {
-        return true;
-    }
-    literal < -top
+    (literal == 0) | variable::is_beyond(literal, last)
 }
 
-// How many literals are bad: counted to the end, and never left early; in 32 bits, as wide as the literals.
-fn count_bad_literals(literals: &[i32], last: u32) -> u32
-    requires { (last ≤ 2147483647) × (length literals.now ≤ 4294967295) }
-    ensures { result ≡ count_to (length literals.now) (bad_at last literals.now) }
+// Whether some literal is bad: all are asked, and the rest is never left unread.
+fn has_bad_literal(literals: &[i32], last: u32) -> bool
+    ensures { result ≡ fold (λ bad l. bad || bad_literal last l) false literals.now }
 {
-    let mut n: u32 = 0;
-    let mut k = 0;
-    while k < literals.len() {
-        if is_bad_literal(literals[k], last) {
-            n += 1;
-        }
-        k += 1;
-    }
-    n
+    literals
+        .iter()
+        .fold(false, |bad, l| bad | is_bad_literal(*l, last))
 }
 
-fn search_bad_literal(literals: &[i32], last: u32) -> Found
-    requires { last ≤ 2147483647 }
-    ensures { result ≡ first (bad_at last literals.now) (length literals.now) }
+fn search_bad_literal(literals: &[i32], last: u32) -> Option<usize>
+    ensures { result ≡ position (bad_literal last) literals.now }
 {
-    let mut k = 0;
-    while k < literals.len() {
-        if is_bad_literal(literals[k], last) {
-            return Found::At(k);
-        }
-        k += 1;
-    }
-    Found::Nothing
+    literals.iter().position(|l| is_bad_literal(*l, last))
 }
 
 // The first literal that is 0, or beyond the last variable either way; a last variable that no literal can name is cut to the
-// largest that one can. Searched for only where the count is not 0, or would not fit.
-pub fn first_bad_literal(literals: &[i32], last: u32) -> Found
+// largest that one can. Searched for only where there is one.
+#[tactic(auto, using(crate::proofs::RangeLaws::searched))]
+pub fn first_bad_literal(literals: &[i32], last: u32) -> Option<usize>
     ensures { result ≡ first (bad_at (min 2147483647 last) literals.now) (length literals.now) }
 {
     let top = bounds::at_most(LARGEST, last);
-    if 4294967295 < literals.len() {
-        return search_bad_literal(literals, top);
+    if has_bad_literal(literals, top) {
+        search_bad_literal(literals, top)
+    } else {
+        None
     }
-    if count_bad_literals(literals, top) == 0 {
-        return Found::Nothing;
-    }
-    search_bad_literal(literals, top)
 }

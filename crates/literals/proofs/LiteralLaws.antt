@@ -1,4 +1,5 @@
 -- What a literal says that is not out of range, and when the cut of the last variable's number changes nothing. Assumes nothing.
+use Rattle.std.specs.Prelude.{None}
 use mathlib.Core.Path.{◌≡◌}
 use mathlib.Core.Bool.{false}
 use mathlib.Core.List.{List}
@@ -8,7 +9,6 @@ use lib.IntN.{ℤ, pos, negsuc, nat_abs}
 use lib.ListN.{length}
 use Rattle.lists.specs.First.{first}
 use Rattle.lists.specs.Signed.{is_zero}
-use Rattle.lists.specs.declared.Found.TheVariants.{Nothing}
 use Rattle.lists.proofs.FirstLaws.{none_bad}
 use Rattle.literals.specs.Literals.{variable, bad_literal, bad_at}
 
@@ -23,5 +23,5 @@ good_names last (pos (suc n)) e = omega arith
 good_names last (negsuc n) e = omega arith
 
 -- where none is out of range, each names a variable
-pub all_name : (last : ℕ) (m : List ℤ) → first (bad_at last m) (length m) ≡ Nothing → (k : ℕ) → k < length m → 1 ≤ variable m k
+pub all_name : (last : ℕ) (m : List ℤ) → first (bad_at last m) (length m) ≡ None → (k : ℕ) → k < length m → 1 ≤ variable m k
 all_name last m e k h = good_names last _ (none_bad (bad_at last m) (length m) e k h)

@@ -1,4 +1,5 @@
 -- What the marks that a model leaves say of an option. Assumes nothing.
+use Rattle.std.specs.Prelude.{Some, None}
 use mathlib.Core.Path.{◌≡◌, sym, ap}
 use mathlib.Core.Bool.{Bool, true, false, not}
 use mathlib.Core.List.{List, [], ◌∷◌}
@@ -10,7 +11,6 @@ use lib.ListN.{length}
 use borrow.Author.Tests.{eqb-true, lt-ltb, le-ltb}
 use Rattle.lists.specs.Upto.{count_to, last_to}
 use Rattle.lists.specs.First.{first, sole}
-use Rattle.lists.specs.declared.Found.TheVariants.{Nothing, At}
 use Rattle.lists.proofs.UptoLaws.{list_same, last_agrees}
 use Rattle.lists.proofs.FirstLaws.{if_none, if_at, first_agrees, count_agrees, count_one}
 use Rattle.diagram.specs.Lent.{Lent, options, domain}
@@ -27,11 +27,11 @@ module _ (d : Lent) (is_true : ℕ → Bool) (i : ℕ) where
   one = eqb (count_to (domain d i) (has_value d is_true i)) 1
 
   -- a search for its one true value finds it, or finds that there is not exactly one
-  pub clear : {v : ℕ} → sole (has_value d is_true i) (domain d i) ≡ At v → (unclear d is_true i ≡ false) × (value_of d is_true i ≡ v) × (v < domain d i)
+  pub clear : {v : ℕ} → sole (has_value d is_true i) (domain d i) ≡ Some v → (unclear d is_true i ≡ false) × (value_of d is_true i ≡ v) × (v < domain d i)
   unfolding sole unclear value_of
   clear {v} e = let w = if_at one (last_to (domain d i) (has_value d is_true i)) v e in (ap not w.0, sym w.1, omega (arith, w.1, (count_one (has_value d is_true i) (domain d i) (eqb-true _ 1 w.0)).0))
 
-  pub not_clear : sole (has_value d is_true i) (domain d i) ≡ Nothing → unclear d is_true i ≡ true
+  pub not_clear : sole (has_value d is_true i) (domain d i) ≡ None → unclear d is_true i ≡ true
   unfolding sole unclear
   not_clear e = ap not (if_none one (last_to (domain d i) (has_value d is_true i)) e)
 

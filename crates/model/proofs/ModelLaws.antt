@@ -1,5 +1,6 @@
 -- The rules of `read_model` say what its table says, and where all have passed the model reads as one build, which is
 -- the one that the list holds. Assumes nothing.
+use Rattle.std.specs.Prelude.{Ok}
 use mathlib.Core.Path.{◌≡◌, refl, sym, ◌∙◌, ap, subst}
 use mathlib.Core.Bool.{not}
 use mathlib.Core.List.{List, [], ◌∷◌, ◌++◌}
@@ -16,7 +17,6 @@ use Rattle.refusal.specs.Rules.{Rule, chain}
 use Rattle.refusal.specs.Said.{Said, result_of}
 use Rattle.refusal.specs.Table.{room_row, ExactlyWhen}
 use Rattle.refusal.specs.declared.Refusal.{Refusal}
-use Rattle.refusal.specs.declared.Verdict.TheVariants.{Passed}
 use Rattle.refusal.proofs.RulesLaws.{passes, passed, not_due}
 use Rattle.refusal.proofs.TableLaws.{Faithful, faithful_append}
 use Rattle.refusal.proofs.RoomLaws.{room_faithful, long_enough, fits}
@@ -73,7 +73,7 @@ module _ (d : Lent) (m : List ℤ) where
     )
 
     -- in a sound diagram they pass exactly when the model reads as a build
-    passed_reads : Sound d → chain literals ≡ Passed → (build : List ℕ) × ReadsAs d m e build
+    passed_reads : Sound d → chain literals ≡ Ok tt → (build : List ℕ) × ReadsAs d m e build
     unfolding literal_rules
     passed_reads s q =
         let w = passed (value_rules d m (last_variable e d)) _ q in
@@ -81,7 +81,7 @@ module _ (d : Lent) (m : List ℤ) where
         let a = (tests_13 s v.0.named_first v.1).none.0 (not_due 13 _ [] w.1).0 in
         (a.build, record { well_named = v.0; is_said = a.is_said; allowed = a.allowed })
 
-    reads_passed : Sound d → (build : List ℕ) → ReadsAs d m e build → chain literals ≡ Passed
+    reads_passed : Sound d → (build : List ℕ) → ReadsAs d m e build → chain literals ≡ Ok tt
     unfolding literal_rules value_rules naming_rules chain
     reads_passed s build r =
         let once = r.well_named.named_first in
@@ -103,7 +103,7 @@ module _ (d : Lent) (m : List ℤ) where
           (λ p. faithful_append (room_rules d room) literals (room_row (options d) room ∷ []) (literal_table d m e) (room_faithful (options d) room) (λ _. literals_faithful (passed_sound d p)))
 
       -- every rule passes exactly when the diagram is sound, its options fit into the list, and the model reads as a build
-      all_passed : (chain (model_rules d m e room) ≡ Passed) ↔ ((Sound d × (options d ≤ room)) × ((build : List ℕ) × ReadsAs d m e build))
+      all_passed : (chain (model_rules d m e room) ≡ Ok tt) ↔ ((Sound d × (options d ≤ room)) × ((build : List ℕ) × ReadsAs d m e build))
       unfolding model_rules sound_rules
       all_passed = (
         (λ q.

@@ -1,5 +1,6 @@
 -- What the marks and the counts of a model's literals say of its variables and of the options: the tests of the numbers
 -- 10 to 12 are for what their rows ask. Assumes nothing.
+use Rattle.std.specs.Prelude.{Ok}
 use mathlib.Core.Path.{◌≡◌, refl, sym, ◌∙◌, ap, subst}
 use mathlib.Core.Bool.{Bool, true, false, not, ◌&&◌, true≢false}
 use mathlib.Core.List.{List, [], Memᴰ}
@@ -17,7 +18,6 @@ use Rattle.lists.proofs.UptoLaws.{list_singles, list_at}
 use Rattle.lists.proofs.EveryLaws.{entry_in, in_entry}
 use Rattle.lists.proofs.FirstLaws.{Tests, tests_each, count_one, one_count}
 use Rattle.refusal.specs.Rules.{chain}
-use Rattle.refusal.specs.declared.Verdict.TheVariants.{Passed}
 use Rattle.refusal.proofs.RulesLaws.{not_due}
 use Rattle.diagram.specs.Lent.{Lent, options, domain, chosen}
 use Rattle.diagram.specs.Numbers.{values}
@@ -113,7 +113,7 @@ module _ (d : Lent) (m : List ℤ) where
         }
 
   -- where numbers 10 to 12 have passed
-  pub values_passed : (last : ℕ) → chain (value_rules d m last) ≡ Passed → WellNamed d m last × ((i : ℕ) → i < options d → OneValue d m i)
+  pub values_passed : (last : ℕ) → chain (value_rules d m last) ≡ Ok tt → WellNamed d m last × ((i : ℕ) → i < options d → OneValue d m i)
   unfolding value_rules naming_rules
   values_passed last q =
       let q₁₀ = not_due 10 _ _ q in

@@ -4,6 +4,7 @@
 
 use refusal::Refusal;
 
+// Stays: a project rule: an answer is an enum whose refusal case holds number and place, and a struct holds that.
 #[derive(Clone, Copy)]
 pub enum ModelRead {
     Built(usize),

@@ -2,115 +2,96 @@
 // things differ. Assumes nothing.
 #![tactic(auto)]
 
+use diagram::Lists;
 use model::ModelRead;
-use numbers::{entry, sum, unlike};
-use show::{end_case, group};
+use second::checker::Due;
+use show::{Report, group};
 use std::io;
 use std::io::Write;
 
-// A refusal's number (0 is none) and place, or how many values were written; and the two numbers that were lent.
-#[derive(Clone, Copy)]
+// How many values were written, or what is refused; and the two numbers that were lent.
+#[derive(Clone, Copy, PartialEq, Eq)]
 struct Built {
-    number: usize,
-    place: usize,
-    length: usize,
-    first: usize,
-    second: usize,
+    outcome: Result<usize, Due>,
+    list: [u32; 2],
 }
 
-// What is expected: a refusal, or with number 0 a build of one value; of a list of two sevens.
-fn expected(number: usize, place: usize, value: usize) -> Built {
+// What is expected where two sevens are lent: a build of one value, or what is refused.
+fn expected(right: Result<u32, Due>) -> Built {
     Built {
-        number,
-        place,
-        length: if number == 0 { 1 } else { 0 },
-        first: value,
-        second: 7,
+        outcome: right.map(|_| 1),
+        list: [right.unwrap_or(7), 7],
     }
-}
-
-fn built_of(outcome: ModelRead, out: &[u32]) -> Built {
-    let first = entry(out, 0);
-    let second = entry(out, 1);
-    match outcome {
-        ModelRead::Built(n) => Built {
-            number: 0,
-            place: 0,
-            length: n,
-            first,
-            second,
-        },
-        ModelRead::Refused(r) => Built {
-            number: r.number as usize,
-            place: r.place,
-            length: 0,
-            first,
-            second,
-        },
-    }
-}
-
-fn unlike_built(a: Built, b: Built) -> usize {
-    let refusals = sum(unlike(a.number, b.number), unlike(a.place, b.place));
-    let lists = sum(unlike(a.first, b.first), unlike(a.second, b.second));
-    sum(sum(refusals, lists), unlike(a.length, b.length))
-}
-
-fn tell_built<W: Write>(w: &mut W, before: &[u8], b: Built) -> io::Result<()> {
-    show::say(w, before)?;
-    if b.number != 0 {
-        return show::say_refusal(w, b.number, b.place);
-    }
-    show::say_named(w, b" build=", b.first as u64)
 }
 
 // Reads a model of S1 into a list of two sevens.
 fn came_of(literals: &[i32]) -> Built {
-    let mut out = [7u32; 2];
-    let answer = model_reader::read_model(&[2], &[1], &[0, 1], literals, &mut out);
-    let outcome = answer.outcome;
-    built_of(outcome, &out)
+    let mut list = [7; 2];
+    let lists = Lists {
+        domains: &[2],
+        layers: &[1],
+        targets: &[0, 1],
+    };
+    let answer = model_reader::read_model(lists, literals, &mut list);
+    let outcome = match answer.outcome {
+        ModelRead::Built(n) => Ok(n),
+        ModelRead::Refused(r) => Err(Due {
+            number: r.number as usize,
+            place: r.place,
+        }),
+    };
+    Built { outcome, list }
+}
+
+fn tell_built<W: Write>(w: &mut W, built: Built) -> io::Result<()> {
+    match built.outcome {
+        Ok(_) => write!(w, " build={}", built.list[0]),
+        Err(due) => show::say_refusal(w, due.number, due.place),
+    }
 }
 
 // A model that is refused leaves a seven where the value would be.
 fn model<W: Write>(
-    w: &mut W,
+    report: &mut Report<W>,
     literals: &[i32],
-    number: usize,
-    place: usize,
-    value: usize,
-    differ: &mut usize,
+    right: Result<u32, Due>,
 ) -> io::Result<()> {
-    show::say(w, b"S8 with model [")?;
-    show::say_words(w, literals, 0, literals.len())?;
-    let right = expected(number, place, value);
+    let right = expected(right);
     let came = came_of(literals);
-    tell_built(w, b" ]: expected", right)?;
-    tell_built(w, b", came", came)?;
-    end_case(w, unlike_built(came, right), differ)
+    write!(report.w, "S8 with model [")?;
+    show::say_words(&mut report.w, literals, 0, literals.len())?;
+    write!(report.w, " ]: expected")?;
+    tell_built(&mut report.w, right)?;
+    write!(report.w, ", came")?;
+    tell_built(&mut report.w, came)?;
+    report.end_case(usize::from(came != right))
 }
 
-fn run_models<W: Write>(w: &mut W, differ: &mut usize) -> io::Result<()> {
-    group(w, b"the scope: models of S1")?;
-    model(w, &[-1, 2], 0, 0, 1, differ)?;
-    model(w, &[2], 0, 0, 1, differ)?;
-    model(w, &[1], 13, 0, 7, differ)?;
-    model(w, &[], 12, 0, 7, differ)?;
-    model(w, &[1, 2], 12, 0, 7, differ)
-}
-
-fn run_bad_literals<W: Write>(w: &mut W, differ: &mut usize) -> io::Result<()> {
-    model(w, &[2, -2], 11, 1, 7, differ)?;
-    model(w, &[2, -2, 0], 10, 2, 7, differ)?;
-    model(w, &[8], 10, 0, 7, differ)?;
-    model(w, &[0], 10, 0, 7, differ)?;
-    model(w, &[-2147483648], 10, 0, 7, differ)
+fn run_models<W: Write>(report: &mut Report<W>) -> io::Result<()> {
+    let samples: [(&[i32], Result<u32, Due>); 10] = [
+        (&[-1, 2], Ok(1)),
+        (&[2], Ok(1)),
+        (&[1], Due::at(13, 0)),
+        (&[], Due::at(12, 0)),
+        (&[1, 2], Due::at(12, 0)),
+        (&[2, -2], Due::at(11, 1)),
+        (&[2, -2, 0], Due::at(10, 2)),
+        (&[8], Due::at(10, 0)),
+        (&[0], Due::at(10, 0)),
+        (&[-2147483648], Due::at(10, 0)),
+    ];
+    for (literals, right) in samples {
+        model(report, literals, right)?;
+    }
+    Ok(())
 }
 
 fn main(rt: HostRuntime) -> io::Result<()> {
-    let mut w = rt.stdout();
-    let mut differ: usize = 0;
-    run_models(&mut w, &mut differ)?;
-    run_bad_literals(&mut w, &mut differ)?;
-    show::tell_last(&mut w, differ)
+    let mut report = Report {
+        w: rt.stdout(),
+        differ: 0,
+    };
+    group(&mut report.w, b"the scope: models of S1")?;
+    run_models(&mut report)?;
+    report.tell_last()
 }

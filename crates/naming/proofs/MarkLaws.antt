@@ -1,4 +1,5 @@
 -- The marks follow the model, literal by literal; and those that the whole model leaves. Assumes nothing.
+use Rattle.std.specs.Prelude.{None}
 use mathlib.Core.Path.{◌≡◌, refl, sym, ◌∙◌, ap, subst}
 use mathlib.Core.Bool.{Bool, true, false, not, cond, ◌&&◌}
 use mathlib.Core.List.{List, [], ◌∷◌}
@@ -11,10 +12,11 @@ use lib.IntN.{ℤ, pos}
 use lib.ListN.{length, get_or, set, take, drop, length-set, length-drop, replicate, length-replicate, get_or-replicate}
 use lib.Seq.{ext_get_or, get_or-set_same, get_or-set_other, length-take-le, get_or-take, get_or-drop}
 use borrow.Author.Tests.{le-leb, lt-leb, leb-true, lt-ltb, le-ltb, ltb-true, ltb-false, ne_eqb, eqb-true, eqb-false, not-false}
-use Rattle.lists.specs.Upto.{up_to, count_to}
+use Rattle.lists.specs.Upto.{up_to}
+use Rattle.lists.specs.First.{first}
 use Rattle.lists.specs.Signed.{beyond}
 use Rattle.lists.proofs.UptoLaws.{list_singles, list_at}
-use Rattle.lists.proofs.FirstLaws.{none_bad, bad_none, on_none, count_none}
+use Rattle.lists.proofs.FirstLaws.{none_bad, bad_none, on_none}
 use Rattle.literals.specs.Literals.{literal, variable}
 use Rattle.naming.specs.Naming.{mark_of, mark, again, mark_at, marks_of}
 use Rattle.naming.specs.Marks.{value_at, is_marked, noted, Marks, NotedTo}
@@ -82,15 +84,15 @@ module _ (D : ℕ) (m : List ℤ) (a : ℕ) where
     record { whole = w.1.whole; said = λ u h. w.1.said u h ∙ sym (same_mark n u h far); rest = w.1.rest },
   )
 
--- so does a block, the part from a to before e, where the count is 0
-pub noted_past : (D : ℕ) (m : List ℤ) (a e : ℕ) {ms : List ℕ} → a ≤ e → e ≤ length m → count_to (length (take (e - a) (drop a m))) (value_at D (take (e - a) (drop a m))) ≡ 0 → NotedTo D m a ms → NotedTo D m e ms
-noted_past D m a e {ms} l h count w = let q : a + (e - a) ≡ e = omega arith in subst (λ (k : ℕ). NotedTo D m k ms) q (noted_on D m a (e - a) w far)
+-- so does a block, the part from a to before e, where a search finds no value variable
+pub noted_past : (D : ℕ) (m : List ℤ) (a e : ℕ) {ms : List ℕ} → a ≤ e → e ≤ length m → first (value_at D (take (e - a) (drop a m))) (length (take (e - a) (drop a m))) ≡ None → NotedTo D m a ms → NotedTo D m e ms
+noted_past D m a e {ms} l h none_found w = let q : a + (e - a) ≡ e = omega arith in subst (λ (k : ℕ). NotedTo D m k ms) q (noted_on D m a (e - a) w far)
   where
     far : (j : ℕ) → j < e - a → D < variable m (a + j)
     far j k =
         let part = take (e - a) (drop a m) in
         let whole : length part ≡ e - a = length-take-le (e - a) (drop a m) (omega (arith, length-drop a m)) in
-        let none = none_bad (value_at D part) (length part) (count_none (value_at D part) (length part) count) j (omega arith) in
+        let none = none_bad (value_at D part) (length part) none_found j (omega arith) in
         let same : literal part j ≡ literal m (a + j) = get_or-take (e - a) (drop a m) j (pos 0) k ∙ get_or-drop a m j (pos 0) in
         ltb-true D (variable m (a + j)) (rw same at (not-false (beyond D (literal part j)) none))
 

@@ -1,9 +1,8 @@
 -- What the functions inside `read_names`, and those that read the marks, say to each other of them: one byte for each value
 -- variable, the first variable's first. Assumes nothing.
-use Rattle.std.specs.Prelude.{◌≡◌, Bool, not, cond, ◌&&◌, List, ℕ, suc, ◌-◌, ◌≤◌, ◌<◌, leb, eqb, ℤ, length, get_or, set}
+use Rattle.std.specs.Prelude.{◌≡◌, Bool, not, cond, ◌&&◌, List, ℕ, suc, ◌-◌, ◌≤◌, ◌<◌, leb, eqb, ℤ, length, get_or, set, None}
 use Rattle.lists.specs.First.{first}
 use Rattle.lists.specs.Signed.{beyond}
-use Rattle.lists.specs.declared.Found.TheVariants.{Nothing}
 use Rattle.literals.specs.Literals.{literal, variable}
 use Rattle.naming.specs.Naming.{mark, again}
 
@@ -37,7 +36,7 @@ pub record Marks (D : ℕ) (m : List ℤ) (k : ℕ) (ms : List ℕ) : Type 0 whe
 
 -- none of the first k literals names a variable up to D again, and the marks are what they say
 abbrev pub NotedTo : ℕ → List ℤ → ℕ → List ℕ → Type 0
-NotedTo D m k ms = (first (again D m) k ≡ Nothing) × Marks D m k ms
+NotedTo D m k ms = (first (again D m) k ≡ None) × Marks D m k ms
 
 -- the variable u + 1 is marked true
 abbrev pub marked_true : List ℕ → ℕ → Bool

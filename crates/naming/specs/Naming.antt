@@ -1,13 +1,13 @@
 -- What the literals of a model say of the variables, one mark for each; numbers 10 and 11 as tests that compute; and what
 -- `read_names` promises for every input. Literals count from 0. Assumes nothing.
-use Rattle.std.specs.Prelude.{Bool, not, cond, ◌&&◌, List, [], ◌∷◌, ℕ, zero, suc, min, ltb, leb, eqb, ℤ, length, replicate}
+use Rattle.std.specs.Prelude.{Bool, not, cond, ◌&&◌, List, [], ◌∷◌, ℕ, zero, suc, min, ltb, leb, eqb, ℤ, length, Result}
 use Rattle.lists.specs.Upto.{up_to}
 use Rattle.lists.specs.First.{first}
 use Rattle.lists.specs.Signed.{is_negative}
 use Rattle.refusal.specs.Rules.{Rule, rule, chain}
-use Rattle.refusal.specs.Said.{leaving}
+use Rattle.refusal.specs.Said.{giving}
+use Rattle.refusal.specs.declared.Refusal.{Refusal}
 use Rattle.literals.specs.Literals.{literal, variable, bad_at}
-use Rattle.naming.specs.declared.NamesRead.{NamesRead}
 
 -- what a literal says of its variable: 1 for true, 2 for false
 abbrev pub mark_of : ℤ → ℕ
@@ -34,10 +34,6 @@ mark_at D m u = cond (ltb u D) (mark m (length m) (suc u)) 0
 unfoldable pub marks_of : ℕ → List ℤ → List ℕ
 marks_of D m = up_to 2048 (λ u. mark_at D m u ∷ [])
 
--- the first refusal that is due, with no mark given; or else the marks
-abbrev pub read_by : List Rule → List ℕ → NamesRead
-read_by rules marks = record { verdict = chain rules; marks = leaving (chain rules) marks (replicate 2048 0) }
-
--- of any V and D, cut to what a literal can name and to what there are marks for
-abbrev pub names_read : ℕ → ℕ → List ℤ → NamesRead
-names_read last D m = read_by (naming_rules (min 2147483647 last) (min 2048 D) m) (marks_of (min 2048 D) m)
+-- the first refusal that is due; or else the marks: of any V and D, cut to what a literal can name and to what there are marks for
+abbrev pub names_read : ℕ → ℕ → List ℤ → Result (List ℕ) Refusal
+names_read last D m = giving (chain (naming_rules (min 2147483647 last) (min 2048 D) m)) (marks_of (min 2048 D) m)

@@ -3,14 +3,6 @@
 #![tactic(auto)]
 
 use diagram::Diagram;
-use refusal::Verdict;
 
 // As many value variables as there can be.
 pub const VALUES: usize = (Diagram::MAX_OPTIONS * Diagram::MAX_DOMAIN) as usize;
-
-// What the names are read as: a verdict, and the marks where it passed.
-#[derive(Drop)]
-pub struct NamesRead {
-    pub verdict: Verdict,
-    pub marks: [u8; VALUES],
-}

@@ -8,27 +8,19 @@ ghost use Rattle.diagram.specs.Lent.{lent};
 ghost use Rattle.diagram.specs.Rules.{outside, bad_domain, option_rules};
 
 use diagram::Diagram;
-use lists::Found;
 use refusal::{Refusal, Verdict};
 
 // Whether x does not lie in low to high.
 pub fn is_outside(low: usize, high: usize, x: usize) -> bool
     ensures { result ≡ outside low high x }
 {
-    if x < low { true } else { high < x }
+    x < low || high < x
 }
 
-fn first_bad_domain(domains: &[u32]) -> Found
+fn first_bad_domain(domains: &[u32]) -> Option<usize>
     ensures { result ≡ first (bad_domain (lent domains.now [] [])) (length domains.now) }
 {
-    let mut i = 0;
-    while i < domains.len() {
-        if is_outside(1, Diagram::MAX_DOMAIN as usize, domains[i] as usize) {
-            return Found::At(i);
-        }
-        i += 1;
-    }
-    Found::Nothing
+    domains.iter().position(|d| is_outside(1, Diagram::MAX_DOMAIN as usize, *d as usize))
 }
 
 // The first refusal that is due.
@@ -36,7 +28,7 @@ pub fn check_options(domains: &[u32]) -> Verdict
     ensures { result ≡ chain (option_rules (lent domains.now [] [])) }
 {
     if is_outside(1, Diagram::MAX_OPTIONS as usize, domains.len()) {
-        return refusal::verdict_of(Refusal::OPTIONS, Found::At(0));
+        return refusal::verdict_of(Refusal::OPTIONS, Some(0));
     }
     refusal::verdict_of(Refusal::DOMAIN, first_bad_domain(domains))
 }

@@ -10,23 +10,22 @@ ghost use Rattle.clauses.specs.Clauses.{pairs_after, pairs, pairwise};
 ghost use Rattle.encoding.specs.Emit.{EmitPromise};
 
 use diagram::Diagram;
+use limits::MAX_VARIABLES;
+
+// Stays, in this and the next, with a buffer and a place in it: its words go on where the ones before stopped, as `Wrote` says; the emitters that
+// cross crates are lent the part alone.
 
 // Not value i together with one of the n values after it.
 fn emit_pairs_after(out: &mut [i32], at: usize, before: u32, i: u32, n: u32) -> usize
     requires n_in_bounds { at + length (words (pairs_after before i n)) ≤ length out.old }
-    requires n_bound { before + i + 1 + n ≤ 1000000 }
+    requires n_bound { before + i + 1 + n ≤ MAX_VARIABLES }
     ensures { Wrote out.old at (words (pairs_after before i n)) out.new result }
 {
-    let a = Diagram::value_variable(before, i);
+    let a = Diagram::value_variable(before, i) as i32;
     let mut p = at;
-    let mut t: u32 = 0;
-    while t < n {
-        let b = Diagram::value_variable(before, i + 1 + t);
-        out[p] = -(a as i32);
-        out[p + 1] = -(b as i32);
-        out[p + 2] = 0;
-        p += 3;
-        t += 1;
+    for t in 0..n {
+        let b = Diagram::value_variable(before, i + 1 + t) as i32;
+        p += clause_writer::emit_words(&mut out[p..], [-a, -b, 0]);
     }
     p
 }
@@ -34,14 +33,12 @@ fn emit_pairs_after(out: &mut [i32], at: usize, before: u32, i: u32, n: u32) -> 
 // No two of its k values.
 fn emit_pairs(out: &mut [i32], at: usize, before: u32, k: u32) -> usize
     requires k_in_bounds { at + length (words (pairs before k)) ≤ length out.old }
-    requires k_bound { before + k ≤ 1000000 }
+    requires k_bound { before + k ≤ MAX_VARIABLES }
     ensures { Wrote out.old at (words (pairs before k)) out.new result }
 {
     let mut p = at;
-    let mut i: u32 = 0;
-    while i < k {
+    for i in 0..k {
         p = emit_pairs_after(out, p, before, i, k - 1 - i);
-        i += 1;
     }
     p
 }
@@ -51,10 +48,10 @@ fn emit_pairs(out: &mut [i32], at: usize, before: u32, k: u32) -> usize
 pub fn emit_option(out: &mut [i32], before: u32, k: u32) -> usize
     ensures { EmitPromise (value_number before k) (words (pairwise before k)) out.old out.new result }
 {
-    if 1000000 < Diagram::value_variable(before, k) {
+    if u64::from(MAX_VARIABLES) < Diagram::value_variable(before, k) {
         return 0;
     }
-    if (out.len() as u64) < k as u64 + 1 + 3 * pair_counts::pairs_of(k) {
+    if (out.len() as u64) < u64::from(k) + 1 + 3 * pair_counts::pairs_of(k) {
         return 0;
     }
     let p = clause_writer::emit_literals(out, before + 1, k);

@@ -5,11 +5,10 @@ ghost use Rattle.std.specs.Prelude.{◌≡◌};
 ghost use Rattle.clauses.specs.Clauses.{pair_count};
 
 // How many pairs k values have.
+#[tactic(auto, using(crate::proofs::PairLaws::product_within))]
 pub fn pairs_of(k: u32) -> u64
     ensures { result ≡ pair_count k }
 {
-    if k == 0 {
-        return 0;
-    }
-    k as u64 * (k as u64 - 1) / 2
+    let k = u64::from(k);
+    k * k.saturating_sub(1) / 2
 }

@@ -2,9 +2,7 @@
 #![tactic(auto)]
 
 ghost use Rattle.std.specs.Prelude.{◌≡◌, [], ◌∷◌};
-ghost use Rattle.refusal.specs.Rules.{rule, chain};
-
-use lists::Found;
+ghost use Rattle.refusal.specs.Rules.{rule, room_rule, chain};
 
 #[derive(Clone, Copy)]
 pub struct Refusal {
@@ -13,12 +11,9 @@ pub struct Refusal {
 }
 
 // What a list of rules says: nothing against, or the first refusal that is due.
-#[derive(Clone, Copy)]
-pub enum Verdict {
-    Passed,
-    Refused(Refusal),
-}
+pub type Verdict = Result<(), Refusal>;
 
+// Stays numbers: the table of refusals, each theorem on it and the C interface speak of a refusal by its number.
 impl Refusal {
     pub const OPTIONS: u32 = 1;
 
@@ -64,11 +59,19 @@ impl Refusal {
 }
 
 // One rule's verdict: refused by its number at the place where a search found it due.
-pub fn verdict_of(number: u32, due: Found) -> Verdict
+#[tactic(auto, unfolding(crate::specs::Rules::chain))]
+pub fn verdict_of(number: u32, due: Option<usize>) -> Verdict
     ensures { result ≡ chain (rule number due ∷ []) }
 {
     match due {
-        Found::Nothing => Verdict::Passed,
-        Found::At(place) => Verdict::Refused(Refusal { number, place }),
+        None => Ok(()),
+        Some(place) => Err(Refusal { number, place }),
     }
+}
+
+// Number 7: a lent buffer of `room` entries is too short for the `needed` ones, and these are its place.
+pub fn check_room(needed: usize, room: usize) -> Verdict
+    ensures { result ≡ chain (room_rule needed room ∷ []) }
+{
+    verdict_of(Refusal::ROOM, (room < needed).then_some(needed))
 }

@@ -3,7 +3,6 @@
 
 ghost use Rattle.std.specs.Prelude.{◌≡◌, [], ◌+◌, ◌≤◌, length};
 ghost use Rattle.lists.specs.Buffer.{Wrote};
-ghost use Rattle.refusal.specs.declared.Verdict.TheVariants as verdict;
 ghost use Rattle.desk.specs.Output.{named_line, refusal_lines};
 ghost use Rattle.desk.specs.Promise.{PrintedBy};
 
@@ -18,6 +17,7 @@ const PLACE: [u8; 6] = *b"place=";
 // As many bytes as the lines have at most.
 const LINES: usize = 56;
 
+// Stays with a buffer and a place in it, as `put` and `write` have them, which it calls: `PutPromise` speaks of these.
 fn put_named(name: &[u8], n: u64, out: &mut [u8], at: usize) -> usize
     requires { at + length (named_line name.now n) ≤ length out.old }
     ensures { Wrote out.old at (named_line name.now n) out.new result }
@@ -36,17 +36,11 @@ fn put_refusal(refusal: Refusal, out: &mut [u8]) -> usize
     put_named(&PLACE, refusal.place as u64, out, next)
 }
 
-fn no_lines() -> [u8; LINES]
-    ensures { length result ≡ 56 }
-{
-    [0u8; LINES]
-}
-
 // The lines stand at the front of `out`, if they fit.
 pub fn print_refusal(refusal: Refusal, out: &mut [u8]) -> DeskAnswer
-    ensures { PrintedBy (verdict.Refused refusal) [] out.old result out.new }
+    ensures { PrintedBy (Err refusal) [] out.old result out.new }
 {
-    let mut lines = no_lines();
+    let mut lines = [0u8; LINES];
     let n = put_refusal(refusal, &mut lines);
     let bytes = byte_writer::put(&lines[..n], out, 0);
     if out.len() < bytes {

@@ -7,8 +7,5 @@ ghost use Rattle.std.specs.Prelude.{◌≡◌, ◌+◌, leb};
 pub fn has_room(size: usize, at: usize, count: usize) -> bool
     ensures { result ≡ leb (at + count) size }
 {
-    if size < count {
-        return false;
-    }
-    at <= size - count
+    at.checked_add(count).is_some_and(|end| end <= size)
 }

@@ -4,11 +4,14 @@
 
 mod scope_samples;
 
+use show::Report;
 use std::io;
 
 fn main(rt: HostRuntime) -> io::Result<()> {
-    let mut w = rt.stdout();
-    let mut words = [0i32; 2048];
-    let differ = scope_samples::run_all(&mut w, &mut words)?;
-    show::tell_last(&mut w, differ)
+    let mut report = Report {
+        w: rt.stdout(),
+        differ: 0,
+    };
+    scope_samples::run_all(&mut report, &mut [0; 2048])?;
+    report.tell_last()
 }

@@ -1,87 +1,51 @@
 // A second judge: from the last node to the first, which nodes allow the build's values. It uses nothing of the library. Assumes
 // nothing.
-use crate::checker;
-use crate::checker::Due;
-use numbers::{difference, entry, put_word, sum};
+use crate::checker::{Due, Lists, rules};
+use numbers::{difference, entry, put, sum};
 
-// What the judge must answer: a refusal's number (0 is none) and place, and 1 where the build is allowed.
-#[derive(Clone, Copy)]
-pub struct Verdict {
-    pub number: usize,
-    pub place: usize,
-    pub allowed: usize,
+// The first value outside its domain.
+fn first_bad_value(domains: &[u32], build: &[u32]) -> Option<usize> {
+    build
+        .iter()
+        .enumerate()
+        .position(|(i, value)| entry(domains, i) <= *value as usize)
 }
 
-// The first value outside its domain, or the build's length.
-fn first_bad_value(domains: &[u32], build: &[u32]) -> usize {
-    for i in 0..build.len() {
-        if entry(domains, i) <= entry(build, i) {
-            return i;
-        }
-    }
-    build.len()
-}
-
-fn check(domains: &[u32], layers: &[u32], targets: &[u32], build: &[u32]) -> Due {
-    let due = checker::check(domains, layers, targets);
-    if due.number != 0 {
-        return due;
-    }
-    checker::rules(
+fn check(lists: Lists<'_>, build: &[u32]) -> Result<(), Due> {
+    lists.check()?;
+    rules(
         8,
-        build.len() == domains.len(),
-        first_bad_value(domains, build),
-        build.len(),
+        build.len() == lists.domains.len(),
+        first_bad_value(lists.domains, build),
     )
 }
 
-// 1 where a reference allows the build's values: T, or a node marked so.
-fn allows(marks: &[i32], reference: usize) -> i32 {
-    if reference == 0 {
-        return 0;
+// Whether a reference allows the build's values: T, or a node marked so.
+fn allows(marks: &[bool], reference: usize) -> bool {
+    match reference {
+        0 => false,
+        1 => true,
+        _ => marks
+            .get(difference(reference, 2))
+            .copied()
+            .unwrap_or(false),
     }
-    if reference == 1 {
-        return 1;
-    }
-    let v = difference(reference, 2);
-    if marks.len() <= v {
-        return 0;
-    }
-    marks[v]
 }
 
 // Marks each node, from the last to the first; the edges are taken off from the end.
-fn mark_nodes(domains: &[u32], layers: &[u32], targets: &[u32], build: &[u32], marks: &mut [i32]) {
-    let mut edge = targets.len();
-    for k in 0..layers.len() {
-        let v = difference(layers.len(), sum(k, 1));
-        let option = difference(entry(layers, v), 1);
-        edge = difference(edge, entry(domains, option));
-        let mark = allows(marks, entry(targets, sum(edge, entry(build, option))));
-        put_word(marks, v, mark);
+fn mark_nodes(lists: Lists<'_>, build: &[u32], marks: &mut [bool]) {
+    let mut edge = lists.targets.len();
+    for (v, layer) in lists.layers.iter().enumerate().rev() {
+        let value = entry(build, difference(*layer as usize, 1));
+        edge = difference(edge, lists.edges_of(*layer));
+        let mark = allows(marks, entry(lists.targets, sum(edge, value)));
+        put(marks, v, mark);
     }
 }
 
-// Of a lent diagram and a build, with a list for the marks.
-pub fn judge(
-    domains: &[u32],
-    layers: &[u32],
-    targets: &[u32],
-    build: &[u32],
-    marks: &mut [i32],
-) -> Verdict {
-    let due = check(domains, layers, targets, build);
-    if due.number != 0 {
-        return Verdict {
-            number: due.number,
-            place: due.place,
-            allowed: 0,
-        };
-    }
-    mark_nodes(domains, layers, targets, build, marks);
-    Verdict {
-        number: 0,
-        place: 0,
-        allowed: if allows(marks, 2) == 1 { 1 } else { 0 },
-    }
+// Whether a lent diagram allows a build, or what has to be refused; with a list for the marks.
+pub fn judge(lists: Lists<'_>, build: &[u32], marks: &mut [bool]) -> Result<bool, Due> {
+    check(lists, build)?;
+    mark_nodes(lists, build, marks);
+    Ok(allows(marks, 2))
 }

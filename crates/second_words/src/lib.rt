@@ -1,40 +1,36 @@
 // A second encoder: each word from its index, by arithmetic on where its stretch of the list begins. It writes nothing: it is
-// held against words that are there. Of the library it uses one law on signed words, in its proofs, and no code and no
-// definition. Its functions are proved to be safe and to end, and promise no more. Assumes nothing.
+// held against words that are there. Of the library it uses no code, no definition and no law. Its functions are proved to be
+// safe and to end, and promise no more. Assumes nothing.
 #![tactic(auto)]
 
-use numbers::{difference, entry, product, quotient, remainder, sum, unlike, unlike_word};
-use second::checker;
+use numbers::{add, difference, entry, product, quotient, remainder, sum, unlike, unlike_word};
+use second::checker::{Due, Lists};
 
-// What the encoder must answer, and how many of the words that it wrote are not the second encoder's.
-#[derive(Clone, Copy)]
-pub struct Expected {
-    pub number: usize,
-    pub place: usize,
+// What a written list has: its words, its clauses, and V, the last variable.
+#[derive(Clone, Copy, PartialEq, Eq)]
+pub struct Counts {
     pub words: usize,
     pub clauses: usize,
     pub variables: usize,
+}
+
+// The counts of what the encoder must have written, and how many of the words that are there are not the second encoder's.
+#[derive(Clone, Copy)]
+pub struct Expected {
+    pub counts: Counts,
     pub unlike: usize,
 }
 
 // ---- counts
 
-// D, or the sum of the first domains.
-fn values_before(domains: &[u32], i: usize) -> usize {
-    let mut n: usize = 0;
-    for k in 0..i {
-        n = sum(n, entry(domains, k));
-    }
-    n
+// D.
+fn values(domains: &[u32]) -> usize {
+    domains.iter().fold(0, |n, d| sum(n, *d as usize))
 }
 
 // How many nodes have this layer.
 pub fn nodes_of(layers: &[u32], layer: usize) -> usize {
-    let mut n: usize = 0;
-    for v in 0..layers.len() {
-        n = sum(n, difference(1, unlike(layer, entry(layers, v))));
-    }
-    n
+    layers.iter().filter(|l| **l as usize == layer).count()
 }
 
 // The words of an option of d values: d + 1 + 3d(d-1)/2.
@@ -49,61 +45,55 @@ fn node_words(d: usize) -> usize {
 
 // The words of all options and the 6 of T, not F and the root.
 fn words_before_nodes(domains: &[u32]) -> usize {
-    let mut n: usize = 6;
-    for i in 0..domains.len() {
-        n = sum(n, option_words(entry(domains, i)));
-    }
-    n
+    domains
+        .iter()
+        .fold(6, |n, d| sum(n, option_words(*d as usize)))
 }
 
 // The formula of the scope for all words.
-pub fn needed(domains: &[u32], layers: &[u32]) -> usize {
-    let edges = checker::edge_count(domains, layers);
-    let nodes = sum(product(2, layers.len()), product(14, edges));
-    sum(words_before_nodes(domains), nodes)
+pub fn needed(lists: Lists<'_>) -> usize {
+    let nodes = sum(
+        product(2, lists.layers.len()),
+        product(14, lists.edge_count()),
+    );
+    sum(words_before_nodes(lists.domains), nodes)
 }
 
 // ---- a word: a variable, its negation, or the 0 of a clause's end
 
 fn plain(variable: usize) -> i32 {
-    (variable % 2147483648) as i32
+    i32::try_from(variable).unwrap_or(0)
 }
 
 fn negated(variable: usize) -> i32 {
-    -((variable % 2147483648) as i32)
+    plain(variable).wrapping_neg()
 }
 
 // ---- the word at an offset of a stretch of the list
 
-// The first of the pair of number p, of d values: the pairs with a smaller first are taken off, one value at a time.
-fn pair_first(d: usize, p: usize) -> usize {
-    let mut left = p;
-    for a in 0..d {
-        let pairs = difference(d, sum(a, 1));
-        if left < pairs {
-            return a;
-        }
-        left = difference(left, pairs);
-    }
-    d
-}
-
-// The number of the first pair whose first is a, of d values: a(2d-a-1)/2.
+// How many pairs of d values have a first below a: a(2d-a-1)/2.
 fn pairs_before(d: usize, a: usize) -> usize {
     product(a, difference(product(2, d), sum(a, 1))) / 2
+}
+
+// The first of the pair of number p, of d values.
+fn pair_first(d: usize, p: usize) -> usize {
+    (0..d)
+        .find(|a| p < pairs_before(d, sum(*a, 1)))
+        .unwrap_or(d)
 }
 
 // The pair of number p of an option whose first value has variable `first`.
 fn pair_word(first: usize, d: usize, p: usize, at: usize) -> i32 {
     let a = pair_first(d, p);
-    if at == 0 {
-        return negated(sum(first, a));
+    match at {
+        0 => negated(sum(first, a)),
+        1 => {
+            let after = difference(p, pairs_before(d, a));
+            negated(sum(first, sum(sum(a, 1), after)))
+        }
+        _ => 0,
     }
-    if at == 1 {
-        let after = difference(p, pairs_before(d, a));
-        return negated(sum(first, sum(sum(a, 1), after)));
-    }
-    0
 }
 
 // An option of d values whose first has variable `first`.
@@ -128,17 +118,28 @@ fn end_word(f: usize, offset: usize) -> i32 {
     }
 }
 
-// T2 to T5 of an edge, by the variables of the edge, its node, its target and its value.
-fn edge_word(edge: usize, node: usize, target: usize, value: usize, offset: usize) -> i32 {
-    match offset {
-        0 | 3 | 6 => negated(edge),
-        1 => plain(node),
-        4 => plain(target),
-        7 => plain(value),
-        9 => negated(target),
-        10 => negated(value),
-        11 => plain(edge),
-        _ => 0,
+// The variables of an edge, its node, its target and its value.
+#[derive(Clone, Copy)]
+struct Edge {
+    edge: usize,
+    node: usize,
+    target: usize,
+    value: usize,
+}
+
+impl Edge {
+    // T2 to T5.
+    fn word(self, offset: usize) -> i32 {
+        match offset {
+            0 | 3 | 6 => negated(self.edge),
+            1 => plain(self.node),
+            4 => plain(self.target),
+            7 => plain(self.value),
+            9 => negated(self.target),
+            10 => negated(self.value),
+            11 => plain(self.edge),
+            _ => 0,
+        }
     }
 }
 
@@ -154,203 +155,151 @@ struct Layer {
     first_edge: usize,
 }
 
-// The node of this place in a layer.
-fn node_word(layer: Layer, targets: &[u32], place: usize, offset: usize) -> i32 {
-    let d = layer.domain;
-    let node = sum(layer.node, place);
-    let skipped = product(place, d);
-    if offset == 0 {
-        return negated(node);
-    }
-    if offset <= d {
-        return plain(sum(sum(layer.edge, skipped), difference(offset, 1)));
-    }
-    if offset == sum(d, 1) {
-        return 0;
-    }
-    let o = difference(offset, sum(d, 2));
-    let j = o / 13;
-    let e = sum(skipped, j);
-    let target = entry(targets, sum(layer.first_edge, e));
-    edge_word(
-        sum(layer.edge, e),
+// Where the first layer begins; its domain is still to be put.
+fn first_layer(lists: Lists<'_>) -> Layer {
+    let f = sum(1, values(lists.domains));
+    let node = sum(f, 2);
+    Layer {
+        value: 1,
+        domain: 0,
+        f,
         node,
-        sum(layer.f, target),
-        sum(layer.value, j),
-        o % 13,
-    )
+        edge: sum(node, lists.layers.len()),
+        first_edge: 0,
+    }
 }
 
-fn layer_word(layer: Layer, targets: &[u32], offset: usize) -> i32 {
-    let size = node_words(layer.domain);
-    node_word(
-        layer,
-        targets,
-        quotient(offset, size),
-        remainder(offset, size),
-    )
+impl Layer {
+    // Where the next layer begins, behind so many nodes of this one; its domain is still to be put.
+    fn after(self, nodes: usize) -> Layer {
+        let edges = product(nodes, self.domain);
+        Layer {
+            value: sum(self.value, self.domain),
+            domain: 0,
+            f: self.f,
+            node: sum(self.node, nodes),
+            edge: sum(self.edge, edges),
+            first_edge: sum(self.first_edge, edges),
+        }
+    }
+
+    // The edge of value j of the node of this place in the layer.
+    fn edge_at(self, targets: &[u32], place: usize, j: usize) -> Edge {
+        let e = sum(product(place, self.domain), j);
+        Edge {
+            edge: sum(self.edge, e),
+            node: sum(self.node, place),
+            target: sum(self.f, entry(targets, sum(self.first_edge, e))),
+            value: sum(self.value, j),
+        }
+    }
+
+    // The node of this place in the layer.
+    fn node_word(self, targets: &[u32], place: usize, offset: usize) -> i32 {
+        let d = self.domain;
+        if offset == 0 {
+            return negated(sum(self.node, place));
+        }
+        if offset <= d {
+            let edge = sum(self.edge, product(place, d));
+            return plain(sum(edge, difference(offset, 1)));
+        }
+        if offset == sum(d, 1) {
+            return 0;
+        }
+        let o = difference(offset, sum(d, 2));
+        self.edge_at(targets, place, o / 13).word(o % 13)
+    }
+
+    fn word(self, targets: &[u32], offset: usize) -> i32 {
+        let size = node_words(self.domain);
+        self.node_word(targets, quotient(offset, size), remainder(offset, size))
+    }
 }
 
 // ---- the words that are there, held against these
 
-// The stretches of the list: an option's values and pairs, the ends, and a layer's nodes.
-#[derive(Clone, Copy)]
-enum Stretch {
-    Option(usize, usize),
-    Ends(usize),
-    Nodes(Layer),
-}
-
-fn word(stretch: Stretch, targets: &[u32], offset: usize) -> i32 {
-    match stretch {
-        Stretch::Option(first, d) => option_word(first, d, offset),
-        Stretch::Ends(f) => end_word(f, offset),
-        Stretch::Nodes(layer) => layer_word(layer, targets, offset),
-    }
-}
-
-// How many words are unlike, how many of the second encoder's are 0, and the index past the last.
-#[derive(Clone, Copy)]
-struct Seen {
+// How many words were held, how many of them are unlike, and how many of the second encoder's are 0.
+#[derive(Drop)]
+struct Held<'a> {
+    words: &'a [i32],
+    count: usize,
     unlike: usize,
     zeros: usize,
-    end: usize,
 }
 
-fn is_zero(word: i32) -> usize {
-    if word == 0 { 1 } else { 0 }
-}
-
-fn hold(stretch: Stretch, targets: &[u32], words: &[i32], from: usize, size: usize) -> Seen {
-    let mut different: usize = 0;
-    let mut zeros: usize = 0;
-    for offset in 0..size {
-        let right = word(stretch, targets, offset);
-        different = sum(different, unlike_word(words, sum(from, offset), right));
-        zeros = sum(zeros, is_zero(right));
+impl Held<'_> {
+    // Holds the next stretch, of which `word` gives the second encoder's word at each offset.
+    fn hold<F: Fn(usize) -> i32>(&mut self, size: usize, word: F)
+        requires { F.IsAlwaysCallable word }
+    {
+        for offset in 0..size {
+            let right = word(offset);
+            let at = sum(self.count, offset);
+            add(&mut self.unlike, unlike_word(self.words, at, right));
+            add(&mut self.zeros, usize::from(right == 0));
+        }
+        add(&mut self.count, size);
     }
-    Seen {
-        unlike: different,
-        zeros,
-        end: sum(from, size),
+
+    fn hold_options(&mut self, domains: &[u32]) {
+        let mut first = 1;
+        for domain in domains {
+            let d = *domain as usize;
+            self.hold(option_words(d), |offset| option_word(first, d, offset));
+            add(&mut first, d);
+        }
+    }
+
+    fn hold_layers(&mut self, lists: Lists<'_>) {
+        let mut layer = first_layer(lists);
+        for (i, domain) in lists.domains.iter().enumerate() {
+            layer.domain = *domain as usize;
+            let nodes = nodes_of(lists.layers, sum(i, 1));
+            let size = product(nodes, node_words(layer.domain));
+            self.hold(size, |offset| layer.word(lists.targets, offset));
+            layer = layer.after(nodes);
+        }
     }
 }
 
-fn both(a: Seen, b: Seen) -> Seen {
-    Seen {
-        unlike: sum(a.unlike, b.unlike),
-        zeros: sum(a.zeros, b.zeros),
-        end: b.end,
-    }
-}
-
-fn hold_options(domains: &[u32], words: &[i32]) -> Seen {
-    let mut seen = Seen {
+fn hold_all<'a>(lists: Lists<'_>, words: &'a [i32]) -> Held<'a> {
+    let mut held = Held {
+        words,
+        count: 0,
         unlike: 0,
         zeros: 0,
-        end: 0,
     };
-    for i in 0..domains.len() {
-        let d = entry(domains, i);
-        let stretch = Stretch::Option(sum(1, values_before(domains, i)), d);
-        seen = both(seen, hold(stretch, &[], words, seen.end, option_words(d)));
-    }
-    seen
-}
-
-// The layer of option i (from 0), of which `before` nodes and `edges` edges come before.
-fn layer_of(domains: &[u32], layers: &[u32], i: usize, before: usize, edges: usize) -> Layer {
-    let f = sum(1, values_before(domains, domains.len()));
-    Layer {
-        value: sum(1, values_before(domains, i)),
-        domain: entry(domains, i),
-        f,
-        node: sum(sum(f, 2), before),
-        edge: sum(sum(sum(f, 2), layers.len()), edges),
-        first_edge: edges,
-    }
-}
-
-// What was seen of the layers so far, and how many nodes and edges they have.
-#[derive(Clone, Copy)]
-struct Walk {
-    seen: Seen,
-    nodes: usize,
-    edges: usize,
-}
-
-// One layer more: that of option i, from 0.
-fn hold_layer(
-    domains: &[u32],
-    layers: &[u32],
-    targets: &[u32],
-    words: &[i32],
-    i: usize,
-    walk: Walk,
-) -> Walk {
-    let layer = layer_of(domains, layers, i, walk.nodes, walk.edges);
-    let d = layer.domain;
-    let nodes = nodes_of(layers, sum(i, 1));
-    let size = product(nodes, node_words(d));
-    let seen = walk.seen;
-    let more = hold(Stretch::Nodes(layer), targets, words, seen.end, size);
-    Walk {
-        seen: both(seen, more),
-        nodes: sum(walk.nodes, nodes),
-        edges: sum(walk.edges, product(nodes, d)),
-    }
-}
-
-fn hold_nodes(domains: &[u32], layers: &[u32], targets: &[u32], words: &[i32], from: Seen) -> Seen {
-    let mut walk = Walk {
-        seen: from,
-        nodes: 0,
-        edges: 0,
-    };
-    for i in 0..domains.len() {
-        walk = hold_layer(domains, layers, targets, words, i, walk);
-    }
-    walk.seen
-}
-
-fn hold_all(domains: &[u32], layers: &[u32], targets: &[u32], words: &[i32]) -> Seen {
-    let a = hold_options(domains, words);
-    let f = sum(1, values_before(domains, domains.len()));
-    let b = both(a, hold(Stretch::Ends(f), targets, words, a.end, 6));
-    hold_nodes(domains, layers, targets, words, b)
+    held.hold_options(lists.domains);
+    let f = sum(1, values(lists.domains));
+    held.hold(6, |offset| end_word(f, offset));
+    held.hold_layers(lists);
+    held
 }
 
 // ---- what the encoder must answer
 
-fn refused(number: usize, place: usize) -> Expected {
-    Expected {
-        number,
-        place,
-        words: 0,
-        clauses: 0,
-        variables: 0,
-        unlike: 0,
-    }
-}
-
 // Of a lent diagram, and the lent words as the encoder left them.
-pub fn expect(domains: &[u32], layers: &[u32], targets: &[u32], words: &[i32]) -> Expected {
-    let due = checker::check(domains, layers, targets);
-    if due.number != 0 {
-        return refused(due.number, due.place);
-    }
-    let need = needed(domains, layers);
+pub fn expect(lists: Lists<'_>, words: &[i32]) -> Result<Expected, Due> {
+    lists.check()?;
+    let need = needed(lists);
     if words.len() < need {
-        return refused(7, need);
+        return Err(Due {
+            number: 7,
+            place: need,
+        });
     }
-    let seen = hold_all(domains, layers, targets, words);
-    let values = values_before(domains, domains.len());
-    Expected {
-        number: 0,
-        place: 0,
+    let held = hold_all(lists, words);
+    let counts = Counts {
         words: need,
-        clauses: seen.zeros,
-        variables: sum(sum(values, layers.len()), sum(2, targets.len())),
-        unlike: sum(seen.unlike, unlike(seen.end, need)),
-    }
+        clauses: held.zeros,
+        variables: sum(
+            sum(values(lists.domains), lists.layers.len()),
+            sum(2, lists.targets.len()),
+        ),
+    };
+    Ok(Expected {
+        counts,
+        unlike: sum(held.unlike, unlike(held.count, need)),
+    })
 }

@@ -7,7 +7,6 @@ ghost use Rattle.diagram.specs.Lent.{lent};
 ghost use Rattle.diagram.specs.Rules.{node_rules, shape_rules};
 
 use diagram::Diagram;
-use lists::Found;
 use refusal::{Refusal, Verdict};
 
 // Numbers 3 and 4.
@@ -15,7 +14,7 @@ fn check_nodes(domains: &[u32], layers: &[u32]) -> Verdict
     ensures { result ≡ chain (node_rules (lent domains.now layers.now [])) }
 {
     if option_check::is_outside(1, Diagram::MAX_NODES as usize, layers.len()) {
-        return refusal::verdict_of(Refusal::NODES, Found::At(0));
+        return refusal::verdict_of(Refusal::NODES, Some(0));
     }
     refusal::verdict_of(
         Refusal::LAYER,
@@ -24,12 +23,10 @@ fn check_nodes(domains: &[u32], layers: &[u32]) -> Verdict
 }
 
 // The first refusal of numbers 1 to 4 that is due.
+#[tactic(auto, using(crate::proofs::ShapeLaws::shape_in_parts))]
 pub fn check_shape(domains: &[u32], layers: &[u32]) -> Verdict
     ensures { result ≡ chain (shape_rules (lent domains.now layers.now [])) }
 {
-    let a = option_check::check_options(domains);
-    if let Verdict::Refused(_) = a {
-        return a;
-    }
+    option_check::check_options(domains)?;
     check_nodes(domains, layers)
 }

@@ -1,10 +1,16 @@
 -- What is printed: bytes as numbers, with what they spell in the comments. Assumes nothing.
-use Rattle.std.specs.Prelude.{Bool, false, List, [], ◌∷◌, ◌++◌, ℕ, ◌/◌, ◌%◌, ◌==◌, ◌&&◌, nat_le, nat_lt, cond, length, slice_range, ℤ}
+use Rattle.std.specs.Prelude.{Bool, false, List, [], ◌∷◌, ◌++◌, ℕ, ◌/◌, ◌%◌, ◌==◌, ◌&&◌, nat_le, nat_lt, cond, length, slice_range, ℤ, Option, Result, OnOk}
+use Rattle.std.specs.List.{flat_map}
+use Rattle.std.specs.Io.KnownBytes.{Appends}
 use Rattle.std.specs.Fmt.{decimal, signed_decimal, digit_glyph}
 use Rattle.cnf.specs.declared.Tally.{Tally}
 use Rattle.dimacs.specs.declared.TextRead.{TextRead}
 use Rattle.dimacs.specs.declared.TextRead.TheVariants.{Read, Refused}
 use Rattle.refusal.specs.declared.Refusal.{Refusal}
+
+-- where no writing fails, the known bytes of a writer grow by these
+abbrev pub Says : {A E W : Type 0} → Result A E → (W → Option (List ℕ)) → W → W → List ℕ → Type 0
+Says r contents old new bytes = OnOk r (Appends (contents old) (contents new) bytes)
 
 -- " refused=" and " place="
 abbrev pub refused_name : List ℕ
@@ -17,13 +23,8 @@ place_name = 32 ∷ 112 ∷ 108 ∷ 97 ∷ 99 ∷ 101 ∷ 61 ∷ []
 abbrev pub word_shown : ℤ → List ℕ
 word_shown w = 32 ∷ signed_decimal w
 
--- what is shown of each entry, one after the other
-abbrev pub shown : {A : Type 0} → (A → List ℕ) → List A → List ℕ
-shown f [] = []
-shown f (x ∷ xs) = f x ++ shown f xs
-
 abbrev pub words_shown : List ℤ → List ℕ
-words_shown = shown word_shown
+words_shown = flat_map word_shown
 
 -- a byte that is printed as it is
 abbrev pub is_plain : ℕ → Bool
@@ -41,7 +42,7 @@ byte_shown b =
 
 -- bytes between double quotes
 abbrev pub quoted : List ℕ → List ℕ
-quoted bs = 34 ∷ (shown byte_shown bs ++ 34 ∷ [])
+quoted bs = 34 ∷ (flat_map byte_shown bs ++ 34 ∷ [])
 
 -- a refusal's number and its place, each behind its name
 abbrev pub refusal_shown : Refusal → List ℕ

@@ -12,34 +12,28 @@ use diagram::Diagram;
 fn cut_to_32(n: u64) -> u32
     ensures { result ≡ cut n }
 {
-    if 4294967295 < n {
-        return 4294967295;
-    }
-    n as u32
+    u32::try_from(n).unwrap_or(u32::MAX)
 }
 
 // How many pairs all options have together, cut.
 fn pair_count(domains: &[u32]) -> u32
     ensures { result ≡ cut (pair_sum domains.now (length domains.now)) }
 {
-    let mut n: u32 = 0;
-    let mut i = 0;
-    while i < domains.len() {
-        n = cut_to_32(n as u64 + pair_counts::pairs_of(domains[i]));
-        i += 1;
-    }
-    n
+    let pairs = domains
+        .iter()
+        .fold(0, |n: u64, k| n.saturating_add(pair_counts::pairs_of(*k)));
+    cut_to_32(pairs)
 }
 
 // Words, clauses and V, from a diagram's counts and its options' pairs.
 pub fn tally_of(counts: Diagram, domains: &[u32]) -> Tally
     ensures { result ≡ tallied counts domains.now }
 {
-    let pairs = pair_count(domains) as u64;
-    let nodes = counts.nodes as u64;
-    let edges = counts.edges as u64;
-    let options = counts.options as u64;
-    let words = 6 + 2 * nodes + 14 * edges + counts.values as u64 + options + 3 * pairs;
+    let pairs = u64::from(pair_count(domains));
+    let nodes = u64::from(counts.nodes);
+    let edges = u64::from(counts.edges);
+    let options = u64::from(counts.options);
+    let words = 6 + 2 * nodes + 14 * edges + u64::from(counts.values) + options + 3 * pairs;
     Tally {
         words: words as usize,
         clauses: cut_to_32(3 + nodes + 4 * edges + options + pairs),

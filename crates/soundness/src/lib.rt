@@ -1,44 +1,66 @@
 // The check of a lent diagram: numbers 1 to 6, and the counts of a sound one. Assumes nothing.
 #![tactic(auto)]
 
-ghost use Rattle.std.specs.Prelude.{◌≡◌, [], ℕ, ◌≤◌, ◌<◌, length, get_or};
-ghost use Rattle.diagram.specs.Lent.{lent};
-ghost use Rattle.diagram.specs.Numbers.{values};
-ghost use Rattle.diagram.specs.Promise.{CheckPromise};
+ghost use Rattle.std.specs.Prelude.{◌≡◌, ◌<◌, ◌^◌, sum};
+ghost use Rattle.diagram.specs.Lent.{lent_by};
+ghost use Rattle.diagram.specs.Promise.{CheckPromise, sound_of};
 
-use diagram::{CheckAnswer, Checked, Diagram};
-use refusal::Verdict;
+use diagram::{CheckAnswer, Checked, Diagram, Lists};
+use refusal::Refusal;
+use std::marker::Model;
+
+// A diagram that was found sound, with its counts. Whoever holds one need not check it again.
+#[derive(Drop)]
+pub struct SoundDiagram<'a> {
+    pub lists: Lists<'a>,
+    pub counts: Diagram,
+}
+
+impl<'a> Model for SoundDiagram<'a> {
+    ghost use Rattle.std.specs.Prelude.{◌≡◌};
+    ghost use Rattle.diagram.specs.Lent.{Lent, lent_by};
+    ghost use Rattle.diagram.specs.Sound.{Sound};
+    ghost use Rattle.diagram.specs.Promise.{counts_of};
+
+    ghost Value = { Lent };
+
+    ghost view = { λ s. lent_by s.lists };
+
+    ghost invariant = { λ s. Sound (lent_by s.lists) × (s.counts ≡ counts_of (lent_by s.lists)) };
+}
 
 // D.
 fn value_count(domains: &[u32]) -> u32
-    requires domains_len_bound { length domains.now ≤ 64 }
-    requires by_index { (i : ℕ) → i < length domains.now → get_or domains.now i 0 ≤ 32 }
-    ensures { result ≡ values (lent domains.now [] []) }
+    requires { sum domains.now < 2 ^ 32 }
+    ensures { result ≡ sum domains.now }
 {
-    let mut n: u32 = 0;
-    let mut i = 0;
-    while i < domains.len() {
-        n += domains[i];
-        i += 1;
-    }
-    n
+    domains.iter().sum()
+}
+
+// Checks 1 to 6 in order.
+pub fn sound(lists: Lists) -> Result<SoundDiagram, Refusal>
+    ensures { result ≡ sound_of (lent_by lists.entry) }
+{
+    layer_targets::check_all(lists)?;
+    Ok(SoundDiagram {
+        lists,
+        counts: Diagram {
+            options: lists.domains.len() as u32,
+            nodes: lists.layers.len() as u32,
+            values: value_count(lists.domains),
+            edges: lists.targets.len() as u32,
+        },
+    })
 }
 
 // Checks 1 to 6 in order; a sound diagram is answered with its counts.
-pub fn check(domains: &[u32], layers: &[u32], targets: &[u32]) -> CheckAnswer
-    ensures { CheckPromise (lent domains.now layers.now targets.now) result }
+pub fn check(lists: Lists) -> CheckAnswer
+    ensures { CheckPromise (lent_by lists.entry) result }
 {
-    match layer_targets::check_all(domains, layers, targets) {
-        Verdict::Refused(r) => CheckAnswer {
-            outcome: Checked::Refused(r),
-        },
-        Verdict::Passed => CheckAnswer {
-            outcome: Checked::Sound(Diagram {
-                options: domains.len() as u32,
-                nodes: layers.len() as u32,
-                values: value_count(domains),
-                edges: targets.len() as u32,
-            }),
+    CheckAnswer {
+        outcome: match sound(lists) {
+            Ok(diagram) => Checked::Sound(diagram.counts),
+            Err(r) => Checked::Refused(r),
         },
     }
 }

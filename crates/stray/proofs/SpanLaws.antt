@@ -1,8 +1,8 @@
 -- How far a layer's targets spread, target by target; and that none strays where they keep to the range. Assumes nothing.
+use Rattle.std.specs.Prelude.{None}
 use Rattle.std.proofs.Common.{◌≡◌, ℕ, ◌+◌, ◌%◌, ◌^◌, ◌<◌, ◌≤◌, Bool, true, false, not, ◌&&◌, ◌||◌, ltb, leb, List, length, get_or, refl, ⊎_elim, arith, ltb-false, le-ltb}
 use borrow.Author.Tests.{lt-leb}
 use Rattle.lists.specs.First.{first}
-use Rattle.lists.specs.declared.Found.TheVariants.{Nothing}
 use Rattle.lists.proofs.UptoLaws.{below_or_not}
 use Rattle.lists.proofs.FirstLaws.{bad_none}
 use Rattle.stray.specs.Stray.{stray, Spans}
@@ -29,5 +29,5 @@ module _ (r : Range) (part : List ℕ) {from most : ℕ} (s : Spans r.ends part 
   none_strays j l true e = refl
   none_strays j l false e = rw (le-ltb (get_or part j 0) r.low (omega (arith, lower, s.least j l (ltb-false _ _ e))), lt-leb r.high (get_or part j 0) (omega (arith, upper, s.highest j l))) refl
 
-  pub keeping : first (λ (j : ℕ). stray r (get_or part j 0)) (length part) ≡ Nothing
+  pub keeping : first (λ (j : ℕ). stray r (get_or part j 0)) (length part) ≡ None
   keeping = bad_none _ (length part) (λ j l. none_strays j l (ltb (get_or part j 0) r.ends) refl)

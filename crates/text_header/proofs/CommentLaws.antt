@@ -15,9 +15,6 @@ use Rattle.dimacs.specs.Header.{comments}
 pub record Skipping (s : List ℕ) (i : ℕ) (inside : Bool) : Type 0 where
   pub left : comments false s ≡ comments inside (drop i s) + i
 
-pub skipping_none : (s : List ℕ) → Skipping s 0 false
-skipping_none s = record { left = omega arith }
-
 module _ (s : List ℕ) (i : ℕ) {inside : Bool} (p : Skipping s i inside) where
   module _ (h : i < length s) where
     -- one more byte of a comment; a line that begins with `c`; and one that does not

@@ -3,16 +3,15 @@
 
 ghost use Rattle.std.specs.Prelude.{◌≡◌, false};
 ghost use Rattle.dimacs.specs.Header.{comments};
-ghost use Rattle.text_header.specs.Header.{no_header, header_of};
+ghost use Rattle.text_header.specs.Header.{header_at, header_of};
 
 use dimacs::HEAD;
+use refusal::Refusal;
 
-// Where the comment lines end, and whether the line there has the header's form; where it has, what it says (cut at
-// 10000000000) and where the tokens begin, and else 0.
+// What the header's line says (cut at 10000000000), where it begins, and where the tokens begin.
 #[derive(Clone, Copy)]
 pub struct Header {
     pub start: usize,
-    pub formed: bool,
     pub variables: u64,
     pub clauses: u64,
     pub next: usize,
@@ -22,57 +21,45 @@ pub struct Header {
 fn skip_comments(text: &[u8]) -> usize
     ensures { result ≡ comments false text.now }
 {
-    let mut i: usize = 0;
     let mut inside = false;
-    while i < text.len() {
-        let b = text[i];
+    for (i, b) in text.iter().enumerate() {
         if inside {
-            inside = b != b'\n';
-            i += 1;
-        } else {
-            if b != b'c' {
-                return i;
-            }
+            inside = *b != b'\n';
+        } else if *b == b'c' {
             inside = true;
-            i += 1;
+        } else {
+            return i;
         }
     }
-    i
+    text.len()
 }
 
-fn no_header(start: usize) -> Header
-    ensures { result ≡ no_header start }
+// The header's line, if it stands at `start`.
+fn header_at(text: &[u8], start: usize) -> Option<Header>
+    ensures { result ≡ header_at text.now start }
 {
-    Header {
-        start,
-        formed: false,
-        variables: 0,
-        clauses: 0,
-        next: 0,
-    }
-}
-
-// The comment lines, and then the header's line.
-pub fn read_header(text: &[u8]) -> Header
-    ensures { result ≡ header_of text.now }
-{
-    let start = skip_comments(text);
     if !keys::has(text, start, &HEAD) {
-        return no_header(start);
+        return None;
     }
-    let variables = decimal_reader::read(text, start + 6);
-    if !keys::is_field(text, variables, b' ') {
-        return no_header(start);
-    }
-    let clauses = decimal_reader::read(text, variables.end + 1);
-    if !keys::is_field(text, clauses, b'\n') {
-        return no_header(start);
-    }
-    Header {
+    let read = decimal_reader::read(text, start + HEAD.len());
+    let variables = keys::field(text, read, b' ')?;
+    let read = decimal_reader::read(text, variables.end + 1);
+    let clauses = keys::field(text, read, b'\n')?;
+    Some(Header {
         start,
-        formed: true,
         variables: variables.value,
         clauses: clauses.value,
         next: clauses.end + 1,
-    }
+    })
+}
+
+// The comment lines, and then the header's line, or number 17.
+pub fn read_header(text: &[u8]) -> Result<Header, Refusal>
+    ensures { result ≡ header_of text.now }
+{
+    let start = skip_comments(text);
+    header_at(text, start).ok_or(Refusal {
+        number: Refusal::HEADER,
+        place: start,
+    })
 }

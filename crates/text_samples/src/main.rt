@@ -3,98 +3,76 @@
 #![tactic(auto)]
 
 use dimacs::TextRead;
-use numbers::{sum, unlike, unlike_word};
-use show::{end_case, group, read_open};
+use second::checker::Due;
+use show::{Report, group, read_open};
 use std::io;
 use std::io::Write;
 
-// A refusal's number, 0 for none, and place; or how many words were read.
-#[derive(Clone, Copy)]
-struct Answer {
-    number: usize,
-    place: usize,
-    words: usize,
-}
+// How many words were read, or what is refused.
+type Answer = Result<usize, Due>;
 
 fn answer_of(outcome: TextRead) -> Answer {
     match outcome {
-        TextRead::Read(t) => Answer {
-            number: 0,
-            place: 0,
-            words: t.words,
-        },
-        TextRead::Refused(r) => Answer {
+        TextRead::Read(t) => Ok(t.words),
+        TextRead::Refused(r) => Err(Due {
             number: r.number as usize,
             place: r.place,
-            words: 0,
-        },
+        }),
     }
 }
 
-// The word that is expected at an index of a list of sevens.
-fn right_word(words: &[i32], at: usize) -> i32 {
-    if words.len() <= at {
-        return 7;
-    }
-    words[at]
+// Whether a list of sevens holds these words, and sevens behind them.
+fn holds(list: &[i32], words: &[i32]) -> bool {
+    list.iter()
+        .enumerate()
+        .all(|(k, word)| *word == words.get(k).copied().unwrap_or(7))
 }
 
-fn unlike_list(list: &[i32], words: &[i32]) -> usize {
-    let mut n: usize = 0;
-    for k in 0..list.len() {
-        n = sum(n, unlike_word(list, k, right_word(words, k)));
+fn tell_expected<W: Write>(w: &mut W, right: Result<&[i32], Due>) -> io::Result<()> {
+    write!(w, ", expected")?;
+    match right {
+        Ok(words) => {
+            write!(w, " words:")?;
+            show::say_words(w, words, 0, words.len())
+        }
+        Err(due) => show::say_refusal(w, due.number, due.place),
     }
-    n
 }
 
-fn tell_expected<W: Write>(
-    w: &mut W,
-    number: usize,
-    place: usize,
-    words: &[i32],
-) -> io::Result<()> {
-    show::say(w, b", expected")?;
-    if number != 0 {
-        return show::say_refusal(w, number, place);
-    }
-    show::say(w, b" words:")?;
-    show::say_words(w, words, 0, words.len())
-}
-
-// Reads a text into four sevens; a refusal is expected, or with number 0 these words.
+// Reads a text into four sevens; these words are expected, or what is refused.
 fn read<W: Write>(
-    w: &mut W,
+    report: &mut Report<W>,
     text: &[u8],
-    number: usize,
-    place: usize,
-    words: &[i32],
-    differ: &mut usize,
+    right: Result<&[i32], Due>,
 ) -> io::Result<()> {
-    let mut list = [7i32; 4];
-    let came = answer_of(read_open(w, text, &mut list)?);
-    tell_expected(w, number, place, words)?;
-    let refusals = sum(unlike(came.number, number), unlike(came.place, place));
-    let lists = sum(unlike(came.words, words.len()), unlike_list(&list, words));
-    end_case(w, sum(refusals, lists), differ)
+    let mut list = [7; 4];
+    let came = answer_of(read_open(&mut report.w, text, &mut list)?);
+    tell_expected(&mut report.w, right)?;
+    let same = came == right.map(|words| words.len()) && holds(&list, right.unwrap_or(&[]));
+    report.end_case(usize::from(!same))
 }
 
-fn good<W: Write>(w: &mut W, differ: &mut usize) -> io::Result<()> {
-    read(w, b"p cnf 1 1\n1 0", 0, 0, &[1, 0], differ)?;
-    read(w, b"p cnf 0 0\n", 0, 0, &[], differ)
-}
-
-fn refused<W: Write>(w: &mut W, differ: &mut usize) -> io::Result<()> {
-    read(w, b"p cnf 1 1\n1", 15, 11, &[], differ)?;
-    read(w, b"p cnf 1 1\n2 0", 14, 10, &[], differ)?;
-    read(w, b"p cnf 1 1\n-0", 18, 10, &[], differ)?;
-    read(w, b"p cnf 1 2\n1 0", 19, 1, &[], differ)
+fn run_texts<W: Write>(report: &mut Report<W>) -> io::Result<()> {
+    let samples: [(&[u8], Result<&[i32], Due>); 6] = [
+        (b"p cnf 1 1\n1 0", Ok(&[1, 0])),
+        (b"p cnf 0 0\n", Ok(&[])),
+        (b"p cnf 1 1\n1", Due::at(15, 11)),
+        (b"p cnf 1 1\n2 0", Due::at(14, 10)),
+        (b"p cnf 1 1\n-0", Due::at(18, 10)),
+        (b"p cnf 1 2\n1 0", Due::at(19, 1)),
+    ];
+    for (text, right) in samples {
+        read(report, text, right)?;
+    }
+    Ok(())
 }
 
 fn main(rt: HostRuntime) -> io::Result<()> {
-    let mut w = rt.stdout();
-    group(&mut w, b"the scope: samples of clause text")?;
-    let mut differ: usize = 0;
-    good(&mut w, &mut differ)?;
-    refused(&mut w, &mut differ)?;
-    show::tell_last(&mut w, differ)
+    let mut report = Report {
+        w: rt.stdout(),
+        differ: 0,
+    };
+    group(&mut report.w, b"the scope: samples of clause text")?;
+    run_texts(&mut report)?;
+    report.tell_last()
 }

@@ -1,22 +1,27 @@
 -- Laws of the first pass: the tokens up to a place are good, and counted. Assumes nothing.
+use Rattle.std.specs.Prelude.{Ok, Err}
 use mathlib.Core.Path.{◌≡◌, refl, sym, ap, ◌∙◌}
+use mathlib.Core.Logic.{inl, inr}
 use mathlib.Core.Bool.{Bool, true, false, cond}
 use mathlib.Core.List.{List, [], ◌∷◌, ◌++◌}
 use Prim.Native.Nat.{ℕ, ◌+◌, ◌≤◌, ◌<◌}
-use native.Mathlib.Nat.{add-zero}
 use native.Mathlib.Omega.{arith}
 use lib.IntN.{ℤ}
 use lib.ListN.{length, length-append, get_or, drop}
+use Rattle.refusal.specs.Said.{giving}
 use Rattle.lists.specs.Signed.{is_zero}
-use Rattle.refusal.specs.Rules.{refusal, chain}
+use mir.Val.{bool_byte}
+use Rattle.refusal.specs.Rules.{chain}
+use Rattle.refusal.specs.declared.Refusal.{Refusal}
 use Rattle.cnf.specs.Words.{zeros, closed}
 use Rattle.cnf.proofs.WordsLaws.{zeros-append, closed-append}
 use Rattle.dimacs.specs.Tokens.{is_gap, lead, Token, word_of, Good, words_of}
 use Rattle.dimacs.specs.Rules.{token_rules, tokens_from}
-use Rattle.dimacs.proofs.PassLaws.{words_of_append, Behind, over_none, over_gap, over_more, over_all}
-use Rattle.token.specs.declared.Judged.TheVariants.{Zero, Literal}
+use Rattle.dimacs.proofs.PassLaws.{words_of_append, Behind, over_none, over_gap, over_more, over_all, over_misformed, over_beyond}
+use Rattle.dimacs.proofs.NumberLaws.{as_number}
+use Rattle.token.specs.declared.Word.{Word}
 use Rattle.token.proofs.JudgeLaws.{TokenTold, told_good}
-use Rattle.text_tokens.specs.Passes.{pass_by, pass_of}
+use Rattle.text_tokens.specs.Passes.{passed, pass_of}
 use Rattle.text_tokens.specs.declared.Pass.{Pass}
 
 -- n words and z clauses, of which the last is closed or not
@@ -41,7 +46,7 @@ closed_one : (ws : List ℤ) (w : ℤ) → closed (ws ++ (w ∷ [])) ≡ is_zero
 unfolding closed
 closed_one ws w = closed-append ws w []
 
-same_pass : {n n' z z' : ℕ} {c c' : Bool} → n ≡ n' → z ≡ z' → c ≡ c' → ◌≡◌ {A = Pass} (record { good = true; refusal = refusal 0 0; words = n; clauses = z; closed = c }) (record { good = true; refusal = refusal 0 0; words = n'; clauses = z'; closed = c' })
+same_pass : {n n' z z' : ℕ} {c c' : Bool} → n ≡ n' → z ≡ z' → c ≡ c' → ◌≡◌ {A = Pass} (record { words = n; clauses = z; closed = c }) (record { words = n'; clauses = z'; closed = c' })
 same_pass p q r = rw (p, q, r)
 
 module _ (v : ℕ) (text : List ℕ) (from : ℕ) where
@@ -73,16 +78,17 @@ module _ (v : ℕ) (text : List ℕ) (from : ℕ) where
         go true = omega (arith, k.fewer)
         go false = omega (arith, k.fewer)
 
-    -- a 0, and a literal
+    -- a word; and a token that is none
     module _ (h : i < length text) (g : is_gap (get_or text i 0) ≡ false) where
-      pub counting_zero : (e : ℕ) → TokenTold v text i (Zero e) → Counting v text from (e + 1) (n + 1) (z + 1) true
-      counting_zero e t = counting_more h g (told_good v text i t.0 t.1) true t.2 e t.3
+      pub counting_word : (w : Word) → TokenTold v text i (Ok w) → Counting v text from (w.end + 1) (n + 1) (z + bool_byte w.closes) w.closes
+      counting_word w t = rw (as_number w.closes) (counting_more h g (told_good v text i w t) w.closes t.2 w.end t.3)
 
-      pub counting_literal : (e : ℕ) → TokenTold v text i (Literal e) → Counting v text from (e + 1) (n + 1) z false
-      counting_literal e t = rw (add-zero z) at (counting_more h g (told_good v text i t.0 t.1) false t.2 e t.3)
+      pub counting_refused : (r : Refusal) → TokenTold v text i (Err r) → pass_of v (tokens_from text from) ≡ Err r
+      counting_refused r (inl t) = rw (over_misformed v text from i k.over h g t.0, t.1)
+      counting_refused r (inr t) = rw (over_beyond v text from i k.over h g t.0 t.1, t.2)
 
-    pub counting_all : length text ≤ i → ◌≡◌ {A = Pass} (record { good = true; refusal = refusal 0 0; words = n; clauses = z; closed = c }) (pass_of v (tokens_from text from))
+    pub counting_all : length text ≤ i → Ok (record { words = n; clauses = z; closed = c }) ≡ pass_of v (tokens_from text from)
     counting_all h =
         let e = over_all v text from i k.over h in
-        same_pass (k.words ∙ ap length (sym e)) (k.clauses ∙ ap (λ (ts : List Token). zeros (words_of ts)) (sym e)) (k.ends ∙ ap (λ (ts : List Token). closed (words_of ts)) (sym e))
-        ∙ sym (ap (pass_by (tokens_from text from)) (ap (λ (ts : List Token). chain (token_rules v ts)) e ∙ k.over.passed))
+        ap Ok (same_pass (k.words ∙ ap length (sym e)) (k.clauses ∙ ap (λ (ts : List Token). zeros (words_of ts)) (sym e)) (k.ends ∙ ap (λ (ts : List Token). closed (words_of ts)) (sym e)))
+        ∙ sym (ap (λ w. giving w (passed (tokens_from text from))) (ap (λ (ts : List Token). chain (token_rules v ts)) e ∙ k.over.passed))

@@ -1,26 +1,21 @@
 -- What `judge_tokens` promises for every text, every place and every V: its whole answer. Assumes nothing.
-use Rattle.std.specs.Prelude.{◌≡◌, true, false, List, ℕ, length}
-use Rattle.refusal.specs.Rules.{refusal, chain}
+use Rattle.std.specs.Prelude.{◌≡◌, List, ℕ, length, Ok, Result}
+use Rattle.refusal.specs.Said.{giving}
+use Rattle.refusal.specs.Rules.{chain}
 use Rattle.refusal.specs.declared.Refusal.{Refusal}
-use Rattle.refusal.specs.declared.Verdict.{Verdict}
-use Rattle.refusal.specs.declared.Verdict.TheVariants.{Passed, Refused}
 use Rattle.cnf.specs.Words.{zeros, closed}
 use Rattle.dimacs.specs.Tokens.{Token, words_of}
 use Rattle.dimacs.specs.Rules.{token_rules}
 use Rattle.text_tokens.specs.declared.Pass.{Pass}
 
--- tokens of which one is bad
-abbrev pub bad_pass : Refusal → Pass
-bad_pass r = record { good = false; refusal = r; words = 0; clauses = 0; closed = false }
+-- good tokens: how many words and clauses they are, and whether the last clause is closed
+abbrev pub passed : List Token → Pass
+passed ts = record { words = length ts; clauses = zeros (words_of ts); closed = closed (words_of ts) }
 
--- all tokens: the first refusal that is due, or how many words and clauses they are, and whether the last clause is closed
-abbrev pub pass_by : List Token → Verdict → Pass
-pass_by ts (Refused r) = bad_pass r
-pass_by ts Passed = record { good = true; refusal = refusal 0 0; words = length ts; clauses = zeros (words_of ts); closed = closed (words_of ts) }
+-- all tokens: the first refusal that is due, or what they are
+abbrev pub pass_of : ℕ → List Token → Result Pass Refusal
+pass_of v ts = giving (chain (token_rules v ts)) (passed ts)
 
-abbrev pub pass_of : ℕ → List Token → Pass
-pass_of v ts = pass_by ts (chain (token_rules v ts))
-
--- what it says where it is good
+-- what it says where they are good
 abbrev pub PassedOver : ℕ → List Token → Pass → Type 0
-PassedOver v ts p = (chain (token_rules v ts) ≡ Passed) × (p.words ≡ length ts) × (p.clauses ≡ zeros (words_of ts)) × (p.closed ≡ closed (words_of ts))
+PassedOver v ts p = (chain (token_rules v ts) ≡ Ok tt) × (p.words ≡ length ts) × (p.clauses ≡ zeros (words_of ts)) × (p.closed ≡ closed (words_of ts))

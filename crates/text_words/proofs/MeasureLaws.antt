@@ -1,33 +1,45 @@
 -- How `measure_words` comes to its answer, and what the answer tells: the words are good and measured, or the first refusal.
 -- Assumes nothing.
-use mathlib.Core.Path.{◌≡◌, refl, sym, ◌∙◌, ap}
-use mathlib.Core.Bool.{true, false}
+use Rattle.std.specs.Prelude.{Ok, Err}
+use mathlib.Core.Path.{◌≡◌, sym, ◌∙◌, ap}
 use mathlib.Core.List.{List}
-use Prim.Native.Nat.{ℕ}
+use Prim.Native.Nat.{ℕ, ◌<◌}
+use native.Mathlib.Omega.{arith}
 use lib.IntN.{ℤ}
 use lib.ListN.{length}
-use Rattle.refusal.specs.Rules.{refusal, chain}
-use Rattle.refusal.specs.declared.Verdict.TheVariants.{Passed, Refused}
+use Rattle.refusal.specs.Said.{giving}
+use Rattle.refusal.specs.Rules.{Verdict, refusal, chain}
+use Rattle.refusal.specs.declared.Refusal.{Refusal}
 use Rattle.cnf.specs.Words.{zeros}
 use Rattle.cnf.specs.Lent.{word_rules}
+use Rattle.cnf.proofs.LentLaws.{over_limits}
 use Rattle.dimacs.specs.Text.{text_of}
-use Rattle.dimacs.proofs.VerdictLaws.{told_refused, told_passed}
-use Rattle.text_words.specs.Measured.{measure_by, measure_of, WordsMeasured}
+use Rattle.dimacs.proofs.VerdictLaws.{given_refused, given_passed}
+use Rattle.text_words.specs.Measured.{measured, measure_of, WordsMeasured}
 use Rattle.text_words.specs.declared.Measure.{Measure}
 
-same : {n n' z z' : ℕ} → n ≡ n' → z ≡ z' → ◌≡◌ {A = Measure} (record { good = true; refusal = refusal 0 0; clauses = n; size = z }) (record { good = true; refusal = refusal 0 0; clauses = n'; size = z' })
+same : {n n' z z' : ℕ} → n ≡ n' → z ≡ z' → ◌≡◌ {A = Measure} (record { clauses = n; size = z }) (record { clauses = n'; size = z' })
 same p q = rw (p, q)
 
 module _ (v : ℕ) (ws : List ℤ) where
-  pub measured : {n z : ℕ} → chain (word_rules v ws) ≡ Passed → n ≡ zeros ws → z ≡ length (text_of v ws) → record { good = true; refusal = refusal 0 0; clauses = n; size = z } ≡ measure_of v ws
-  measured q p r = same p r ∙ sym (ap (measure_by v ws) q)
+  by_verdict : {w : Verdict} → chain (word_rules v ws) ≡ w → measure_of v ws ≡ giving w (measured v ws)
+  by_verdict q = ap (λ (w : Verdict). giving w (measured v ws)) q
 
-  module _ (m : Measure) (e : m ≡ measure_of v ws) where
-    pub measure_bad : m.good ≡ false → chain (word_rules v ws) ≡ Refused m.refusal
-    measure_bad = told_refused (measure_by v ws) (λ m. m.good) (λ m. m.refusal) (λ r. refl) (λ r. refl) refl (chain (word_rules v ws)) m e
+  -- over a limit
+  pub too_many_variables : 1000000 < v → measure_of v ws ≡ Err (refusal 16 0)
+  too_many_variables h = by_verdict (over_limits v ws (λ k. omega (arith, k.counts.variables)))
 
-    pub measure_good : m.good ≡ true → WordsMeasured v ws m
-    measure_good b =
-        let q = told_passed (measure_by v ws) (λ m. m.good) (λ m. m.refusal) (λ r. refl) (λ r. refl) refl (chain (word_rules v ws)) m e b in
-        let s = e ∙ ap (measure_by v ws) q in
-        (q, ap (λ (m : Measure). m.clauses) s, ap (λ (m : Measure). m.size) s)
+  pub too_many_words : 100000000 < length ws → measure_of v ws ≡ Err (refusal 16 0)
+  too_many_words h = by_verdict (over_limits v ws (λ k. omega (arith, k.words)))
+
+  pub measure_refuses : {r : Refusal} → chain (word_rules v ws) ≡ Err r → Err r ≡ measure_of v ws
+  measure_refuses q = sym (by_verdict q)
+
+  pub measure_gives : {n z : ℕ} → chain (word_rules v ws) ≡ Ok tt → n ≡ zeros ws → z ≡ length (text_of v ws) → Ok (record { clauses = n; size = z }) ≡ measure_of v ws
+  measure_gives q p r = ap Ok (same p r) ∙ sym (by_verdict q)
+
+  pub measure_bad : {r : Refusal} → measure_of v ws ≡ Err r → chain (word_rules v ws) ≡ Err r
+  measure_bad e = given_refused (chain (word_rules v ws)) (measured v ws) e
+
+  pub measure_good : {m : Measure} → measure_of v ws ≡ Ok m → WordsMeasured v ws m
+  measure_good e = let q = given_passed (chain (word_rules v ws)) (measured v ws) e in (q.0, ap (λ (m : Measure). m.clauses) q.1, ap (λ (m : Measure). m.size) q.1)

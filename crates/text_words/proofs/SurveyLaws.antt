@@ -1,52 +1,28 @@
 -- What the pass over the words comes to: the zeros and the literals beyond V are counted, and the text is measured. Assumes
 -- nothing.
+use Rattle.std.specs.Prelude.{None}
 use mathlib.Core.Path.{◌≡◌, sym, ap, ◌∙◌}
-use mathlib.Core.Logic.{◌⊎◌, inl, inr}
 use mathlib.Core.Bool.{false, cond, not}
 use mathlib.Core.List.{List}
-use Prim.Native.Nat.{ℕ, ◌+◌, ◌*◌, ◌^◌, ◌≤◌, ◌<◌, min}
-use native.Mathlib.Numerals.{add-one}
+use Prim.Native.Nat.{ℕ, ◌+◌, ◌*◌, ◌≤◌, ◌<◌, min}
 use native.Mathlib.Omega.{arith}
-use lib.Dec.{leb, ltb, eqb}
+use lib.Dec.{eqb}
 use lib.IntN.{ℤ, nat_abs}
 use lib.ListN.{length}
-use borrow.Author.Tests.{lt-ltb, eqb-true, not-false}
+use borrow.Author.Tests.{eqb-true, not-false}
 use Rattle.lists.specs.Upto.{sum_to}
 use Rattle.lists.specs.Signed.{is_zero, is_negative, beyond}
 use Rattle.lists.specs.First.{first}
-use Rattle.lists.specs.declared.Found.TheVariants.{Nothing}
-use Rattle.lists.proofs.UptoLaws.{below_or_not, at_most_one, sum_none, sum_more, sum_most, sum_same, list_length}
+use Rattle.lists.proofs.UptoLaws.{at_most_one, sum_none, sum_more, sum_most, sum_same, list_length}
 use Rattle.lists.proofs.FirstLaws.{count_start, count_more, count_most, count_none}
 use Rattle.decimal.specs.Digits.{digits}
-use Rattle.decimal.proofs.WriterLaws.{length_most, length_least}
+use Rattle.decimal.proofs.WriterLaws.{length_most}
 use Rattle.cnf.specs.Words.{zeros}
 use Rattle.cnf.specs.Lent.{word, beyond_at, WellWords}
 use Rattle.cnf.proofs.WordsLaws.{zeros_count}
 use Rattle.dimacs.specs.Text.{word_text, body, text_of}
 use Rattle.dimacs.proofs.WriterLaws.{literal_size, word_length, body_nine, text_size}
-use Rattle.text_words.specs.Survey.{VariableCut, word_size, Surveyed}
-
--- ---- a word that is cut
-
-pub not_cut : {z : ℤ} {n : ℕ} → n ≡ nat_abs z → VariableCut z n
-not_cut e = record { near = λ _. e; far = λ h. omega arith }
-
-module _ (z : ℤ) {n : ℕ} (fits : nat_abs z < 10 ^ 20) (small : n < 10 ^ 20) (c : VariableCut z n) where
-  -- it is beyond a limit exactly when the word is
-  cut_beyond : (v : ℕ) → v ≤ 1000000 → leb (v + 1) n ≡ beyond v z
-  cut_beyond v h = ap (λ (k : ℕ). leb k n) (add-one v) ∙ go (below_or_not 1000000 (nat_abs z))
-    where
-      go : (1000000 < nat_abs z) ⊎ (nat_abs z ≤ 1000000) → ltb v n ≡ beyond v z
-      go (inl l) = let k = c.far l in lt-ltb v n (omega arith) ∙ sym (lt-ltb v (nat_abs z) (omega arith))
-      go (inr l) = ap (ltb v) (c.near l)
-
-  -- it has as many digits, up to seven
-  cut_width : min 7 (length (digits n)) ≡ min 7 (length (digits (nat_abs z)))
-  cut_width = go (below_or_not 1000000 (nat_abs z))
-    where
-      go : (1000000 < nat_abs z) ⊎ (nat_abs z ≤ 1000000) → min 7 (length (digits n)) ≡ min 7 (length (digits (nat_abs z)))
-      go (inl l) = let k = c.far l in omega (arith, length_least 6 n (omega arith) small, length_least 6 (nat_abs z) (omega arith) fits)
-      go (inr l) = rw (c.near l)
+use Rattle.text_words.specs.Survey.{word_size, Surveyed}
 
 -- ---- the first pass
 
@@ -60,14 +36,13 @@ module _ {v : ℕ} {ws : List ℤ} where
 
   module _ {k clauses past size : ℕ} (s : Surveyed v ws k clauses past size) where
     -- the word at k is counted and measured by what is found of it
-    pub survey_more : {n zero past' width sign : ℕ} → v ≤ 1000000 → nat_abs (word ws k) < 10 ^ 20 → n < 10 ^ 20 → VariableCut (word ws k) n
-        → zero ≡ cond (is_zero (word ws k)) 1 0 → past' ≡ cond (leb (v + 1) n) 1 0 → width ≡ min 7 (length (digits n)) → sign ≡ cond (is_negative (word ws k)) 1 0
+    pub survey_more : {zero past' width sign : ℕ} → zero ≡ cond (is_zero (word ws k)) 1 0 → past' ≡ cond (beyond v (word ws k)) 1 0 → width ≡ min 7 (length (digits (nat_abs (word ws k)))) → sign ≡ cond (is_negative (word ws k)) 1 0
         → Surveyed v ws (k + 1) (clauses + zero) (past + past') (size + (width + sign + 1))
     unfolding word_size
-    survey_more h fits small c e f g l = record {
+    survey_more e f g l = record {
       closing = count_more _ k s.closing e;
-      out_of_range = count_more _ k s.out_of_range (f ∙ rw (cut_beyond (word ws k) fits small c v h));
-      bytes = omega (arith, s.bytes, sum_more (λ j. word_size (word ws j)) k, cut_width (word ws k) fits small c);
+      out_of_range = count_more _ k s.out_of_range f;
+      bytes = omega (arith, s.bytes, sum_more (λ j. word_size (word ws j)) k);
     }
 
     -- no sum grows large
@@ -78,16 +53,12 @@ module _ {v : ℕ} {ws : List ℤ} where
       omega (arith, s.bytes, sum_most (λ j. word_size (word ws j)) 9 k (λ j _. size_most (word ws j))),
     )
 
-  -- the pass stops at the end of the words
-  pub survey_done : {k clauses past size : ℕ} → Surveyed v ws k clauses past size → k ≤ length ws → length ws ≤ k → Surveyed v ws (length ws) clauses past size
-  survey_done {k} s h l = let e : k ≡ length ws = omega arith in rw e at s
-
   module _ {clauses past size : ℕ} (s : Surveyed v ws (length ws) clauses past size) where
     pub survey_zeros : clauses ≡ zeros ws
     survey_zeros = s.closing ∙ sym (zeros_count ws)
 
     -- as code tests it
-    pub survey_range : not (eqb past 0) ≡ false → first (beyond_at v ws) (length ws) ≡ Nothing
+    pub survey_range : not (eqb past 0) ≡ false → first (beyond_at v ws) (length ws) ≡ None
     survey_range e = count_none (beyond_at v ws) (length ws) (sym s.out_of_range ∙ eqb-true past 0 (not-false (eqb past 0) e))
 
 -- ---- how long the text is

@@ -1,14 +1,9 @@
 -- What the writer's first pass finds of a word list: internal, for its contract. Assumes nothing.
-use Rattle.std.specs.Prelude.{◌≡◌, cond, List, ℕ, ◌+◌, ◌≤◌, ◌<◌, min, ℤ, nat_abs, length}
+use Rattle.std.specs.Prelude.{◌≡◌, cond, List, ℕ, ◌+◌, min, ℤ, nat_abs, length}
 use Rattle.lists.specs.Upto.{sum_to, count_to}
 use Rattle.lists.specs.Signed.{is_zero, is_negative}
 use Rattle.decimal.specs.Digits.{digits}
 use Rattle.cnf.specs.Lent.{word, beyond_at}
-
--- n is the variable that a word names, up to the largest limit; of one above the limit it is some number above it
-pub record VariableCut (z : ℤ) (n : ℕ) : Type 0 where
-  pub near : nat_abs z ≤ 1000000 → n ≡ nat_abs z
-  pub far : 1000000 < nat_abs z → 1000000 < n
 
 -- how many bytes a word has as text, with the byte after it, where no more than seven digits are counted
 unfoldable pub word_size : ℤ → ℕ

@@ -1,12 +1,17 @@
 -- What is stored: a word's text byte by byte, the header's line, and both. Assumes nothing.
-use mathlib.Core.Path.{◌≡◌, ap}
+use mathlib.Core.Path.{◌≡◌, sym, ◌∙◌, ap}
 use mathlib.Core.Bool.{true, false, cond}
 use mathlib.Core.List.{List, [], ◌∷◌, ◌++◌, append_assoc}
 use Prim.Native.Nat.{ℕ, ◌+◌, ◌^◌, ◌≤◌, ◌<◌}
 use native.Mathlib.Omega.{arith}
 use lib.IntN.{ℤ, pos, negsuc, nat_abs}
 use lib.ListN.{length, set, length-set}
+use borrow.Author.Tests.{eq-eqb, ne_eqb}
+use mir.Syntax.{w32}
+use mir.Val.{SFits, to_z, of_z}
+use mir.ValLaws.{to_z-of_z}
 use Rattle.lists.specs.Signed.{is_zero, is_negative}
+use Rattle.lists.proofs.SignedLaws.{zero_is, fits_abs}
 use Rattle.lists.specs.Buffer.{Wrote}
 use Rattle.lists.proofs.BufferLaws.{put_over, kept, then, wrote_next}
 use Rattle.decimal.specs.Digits.{digits}
@@ -20,7 +25,7 @@ use Rattle.dimacs.proofs.WriterLaws.{literal_size, word_length, header_length, L
 
 -- ---- a word's text
 
-pub zero_text : (z : ℤ) → is_zero z ≡ true → word_text z ≡ 48 ∷ line_feed ∷ []
+zero_text : (z : ℤ) → is_zero z ≡ true → word_text z ≡ 48 ∷ line_feed ∷ []
 unfolding word_text literal_text is_zero
 zero_text z e = rw (zero_only z e, digits_small 0 (omega arith))
 
@@ -32,13 +37,24 @@ signed (negsuc n) h e f w = then {xs = minus ∷ []} (record { list = e; next = 
 
 -- and then the space
 module _ (z : ℤ) {l l₁ l₂ : List ℕ} {at from n count : ℕ} where
-  pub word_space : is_zero z ≡ false → nat_abs z < 10 ^ 20 → at + length (word_text z) ≤ length l → l₁ ≡ set l at minus → from ≡ at + cond (is_negative z) 1 0 → n ≡ nat_abs z → PutPromise (digits n) from l₁ count l₂
+  word_space : is_zero z ≡ false → nat_abs z < 10 ^ 20 → at + length (word_text z) ≤ length l → l₁ ≡ set l at minus → from ≡ at + cond (is_negative z) 1 0 → n ≡ nat_abs z → PutPromise (digits n) from l₁ count l₂
       → LastByte l at (word_text z) l₂ (from + count) space
   unfolding word_text
   word_space other small fits sign after-sign number p =
       let d = ap (λ (k : ℕ). length (digits k)) number in
       let w = signed z small sign after-sign (rw number at (put_wrote (digits n) from l₁ (omega (arith, literal_size z, word_length z, ap length sign, length-set l at minus, d)) p)) in
       rw other (last_byte space w (omega (arith, w.next, word_length z)))
+
+-- the same as code tests the word and reads it
+module _ (z : ℤ) (word_fits : SFits w32 z) where
+  pub zero_bytes : of_z w32 z ≡ 0 → word_text z ≡ 48 ∷ line_feed ∷ []
+  zero_bytes e = zero_text z (sym (zero_is z word_fits) ∙ eq-eqb _ _ e)
+
+  pub word_done : {l l₁ l₂ : List ℕ} {at from n count : ℕ} → (of_z w32 z ≡ 0 → ⊥) → at + length (word_text z) ≤ length l → l₁ ≡ set l at minus → from ≡ at + cond (is_negative (to_z w32 (of_z w32 z))) 1 0 → n ≡ nat_abs (to_z w32 (of_z w32 z)) → PutPromise (digits n) from l₁ count l₂
+      → LastByte l at (word_text z) l₂ (from + count) space
+  word_done other fits sign after-sign number p =
+      let back = to_z-of_z w32 z word_fits in
+      word_space z (sym (zero_is z word_fits) ∙ ne_eqb _ _ other) (omega (arith, fits_abs z word_fits)) fits sign (rw back at after-sign) (rw back at number) p
 
 -- ---- the header's line
 

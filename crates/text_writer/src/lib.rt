@@ -3,17 +3,17 @@
 
 ghost use Rattle.std.specs.Prelude.{◌≡◌, cond, ◌+◌, ◌≤◌, ◌<◌, length, set};
 ghost use Rattle.lists.specs.Signed.{is_negative};
-ghost use Rattle.lists.specs.Buffer.{Wrote};
-ghost use Rattle.refusal.specs.Rules.{refusal, chain};
-ghost use Rattle.cnf.specs.Words.{zeros};
-ghost use Rattle.cnf.specs.Lent.{word_rules};
+ghost use Rattle.lists.specs.Buffer.{over, Wrote};
 ghost use Rattle.dimacs.specs.Text.{minus, word_text, body, header_line, text_of};
-ghost use Rattle.dimacs.specs.Write.{WritePromise};
+ghost use Rattle.dimacs.specs.Given.{GivenBy};
+ghost use Rattle.dimacs.specs.Write.{write_rules, WritePromise};
 
 use dimacs::{HEAD, TextWritten, WriteAnswer};
-use refusal::{Refusal, Verdict};
+use refusal::Refusal;
 
 // ---- the words
+
+// Stays, in these two, with a buffer and a place in it: so the digits between are put, by `PutPromise`.
 
 // A minus, which the first digit takes the place of where the word is not negative.
 fn put_sign(word: i32, out: &mut [u8], at: usize) -> usize
@@ -21,7 +21,7 @@ fn put_sign(word: i32, out: &mut [u8], at: usize) -> usize
     ensures { (out.new ≡ set out.old at minus) × (result ≡ at + cond (is_negative word) 1 0) }
 {
     out[at] = b'-';
-    if word < 0 { at + 1 } else { at }
+    at + usize::from(word < 0)
 }
 
 // A word and the byte after it.
@@ -45,10 +45,8 @@ fn put_words(words: &[i32], out: &mut [u8], from: usize) -> usize
     ensures { Wrote out.old from (body words.now) out.new result }
 {
     let mut at = from;
-    let mut k = 0;
-    while k < words.len() {
-        at = put_word(words[k], out, at);
-        k += 1;
+    for word in words {
+        at = put_word(*word, out, at);
     }
     at
 }
@@ -69,34 +67,21 @@ fn put_header(variables: u32, clauses: u32, out: &mut [u8]) -> usize
 
 // ---- all of it
 
-fn refused(number: u32, place: usize) -> WriteAnswer
-    ensures { result.outcome ≡ TextWritten.Refused (refusal number place) }
+// Numbers 16, 14, 15 and 7, or the text, and how many bytes it has.
+fn put_text(variables: u32, words: &[i32], out: &mut [u8]) -> Result<usize, Refusal>
+    ensures { GivenBy (write_rules variables words.now (length out.old)) (length (text_of variables words.now)) (over (text_of variables words.now) out.old) out.old result out.new }
 {
-    WriteAnswer {
-        outcome: TextWritten::Refused(Refusal { number, place }),
-    }
-}
-
-// A word list that passed, with so many clauses and a text of so many bytes: number 7, or its text.
-fn write_checked(
-    variables: u32,
-    words: &[i32],
-    clauses: u32,
-    size: u32,
-    out: &mut [u8],
-) -> WriteAnswer
-    requires { (chain (word_rules variables words.now) ≡ Verdict.Passed) × (clauses ≡ zeros words.now) × (size ≡ length (text_of variables words.now)) }
-    ensures { WritePromise variables words.now out.old result out.new }
-{
-    let need = size as usize;
+    let measure = text_words::measure_words(variables, words)?;
+    let need = measure.size as usize;
     if out.len() < need {
-        return refused(Refusal::ROOM, need);
+        return Err(Refusal {
+            number: Refusal::ROOM,
+            place: need,
+        });
     }
-    let from = put_header(variables, clauses, out);
+    let from = put_header(variables, measure.clauses, out);
     let end = put_words(words, out, from);
-    WriteAnswer {
-        outcome: TextWritten::Written(end),
-    }
+    Ok(end)
 }
 
 // Checks 16, 14, 15 and 7 in order; the text of V and a word list then fills the front of `out`, and the answer counts its
@@ -104,9 +89,9 @@ fn write_checked(
 pub fn write_text(variables: u32, words: &[i32], out: &mut [u8]) -> WriteAnswer
     ensures { WritePromise variables words.now out.old result out.new }
 {
-    let measure = text_words::measure_words(variables, words);
-    if !measure.good {
-        return refused(measure.refusal.number, measure.refusal.place);
-    }
-    write_checked(variables, words, measure.clauses, measure.size, out)
+    let outcome = match put_text(variables, words, out) {
+        Ok(bytes) => TextWritten::Written(bytes),
+        Err(refusal) => TextWritten::Refused(refusal),
+    };
+    WriteAnswer { outcome }
 }

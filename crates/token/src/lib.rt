@@ -5,57 +5,76 @@ ghost use Rattle.std.specs.Prelude.{◌≡◌, ◌<◌, length, get_or};
 ghost use Rattle.token.specs.Judged.{token_judged, read_judged};
 
 use decimal::Reading;
+use refusal::Refusal;
 
-// What a token is; where it is a word, the place past its last byte.
+// A token that is a word: whether it is the 0 that closes a clause, and the place past its last byte.
 #[derive(Clone, Copy)]
-pub enum Judged {
-    Misformed,
-    Beyond,
-    Zero(usize),
-    Literal(usize),
+pub struct Word {
+    pub closes: bool,
+    pub end: usize,
 }
 
-// Digits that were read and should end a token.
-fn judge_read(text: &[u8], read: Reading, variables: u32) -> Judged
-    ensures { result ≡ read_judged variables text.now read }
+// What was read and should end the token that begins at `at`.
+// Stays: text, place and V go by themselves: a struct of the three would be made anew for each token.
+fn judge_read(
+    text: &[u8],
+    at: usize,
+    read: Option<Reading>,
+    variables: u32,
+) -> Result<Word, Refusal>
+    ensures { result ≡ read_judged variables text.now at read }
 {
-    if !read.good {
-        return Judged::Misformed;
-    }
-    if !gaps::is_ended(text, read.end) {
-        return Judged::Misformed;
-    }
+    let Some(read) = read.filter(|read| gaps::is_ended(text, read.end)) else {
+        return Err(Refusal {
+            number: Refusal::TOKEN,
+            place: at,
+        });
+    };
     if (variables as u64) < read.value {
-        return Judged::Beyond;
+        return Err(Refusal {
+            number: Refusal::CLAUSE_LITERAL,
+            place: at,
+        });
     }
-    if read.value == 0 {
-        return Judged::Zero(read.end);
-    }
-    Judged::Literal(read.end)
+    Ok(Word {
+        closes: read.value == 0,
+        end: read.end,
+    })
 }
 
 // A token that begins with `0`: mostly that alone, which closes a clause. What a zero means that leads more digits is for
 // `decimal` to say; today such a token is misformed.
-fn judge_zero(text: &[u8], at: usize, variables: u32) -> Judged
+fn judge_zero(text: &[u8], at: usize, variables: u32) -> Result<Word, Refusal>
     requires { (at < length text.now) × (get_or text.now at 0 ≡ 48) }
     ensures { result ≡ token_judged variables text.now at }
 {
     if gaps::is_ended(text, at + 1) {
-        return Judged::Zero(at + 1);
+        return Ok(Word {
+            closes: true,
+            end: at + 1,
+        });
     }
-    judge_read(text, decimal_reader::read(text, at), variables)
+    judge_read(text, at, decimal_reader::read(text, at), variables)
 }
 
 // The token at `at`, for variables up to V; where a separator stands there, or nothing, it is misformed.
-pub fn judge_token(text: &[u8], at: usize, variables: u32) -> Judged
+pub fn judge_token(text: &[u8], at: usize, variables: u32) -> Result<Word, Refusal>
     ensures { result ≡ token_judged variables text.now at }
 {
-    if text.len() <= at {
-        return Judged::Misformed;
+    match text.get(at) {
+        None => Err(Refusal {
+            number: Refusal::TOKEN,
+            place: at,
+        }),
+        Some(b'0') => judge_zero(text, at, variables),
+        Some(first) => {
+            let from = at + usize::from(*first == b'-');
+            judge_read(
+                text,
+                at,
+                decimal_positive::read_positive(text, from),
+                variables,
+            )
+        }
     }
-    if text[at] == b'0' {
-        return judge_zero(text, at, variables);
-    }
-    let from = at + (text[at] == b'-') as usize;
-    judge_read(text, decimal_positive::read_positive(text, from), variables)
 }

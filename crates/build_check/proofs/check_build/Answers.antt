@@ -12,4 +12,4 @@ returns-then-build-domains c = tested _ _ (ap not (ne_eqb _ _ c.if-build-domains
 
 pub returns : goal.returns
 unfolding build_rules
-returns c = let f = c.before.before in not_tested _ _ (ap not (eq-eqb _ _ f.if-build-domains.false)) (rw (← f.first_bad_value.ensures) c.verdict_of-2.ensures)
+returns c = not_tested _ _ (ap not (eq-eqb _ _ c.if-build-domains.false)) (rw (← c.first_bad_value.ensures) c.verdict_of-2.ensures)

@@ -1,12 +1,7 @@
--- `build_judge::first_edge` meets its contract: e is the first edge of node k. Assumes nothing.
-use mathlib.Core.Path.{◌≡◌}
-use mathlib.Core.List.{[]}
-use Prim.Native.Nat.{◌≤◌, ◌-◌}
+-- `build_judge::first_edge` meets its contract: e is the first edge of the node that is next. Assumes nothing.
+use Rattle.std.specs.Prelude.{◌≡◌, [], ◌+◌}
 use Rattle.diagram.specs.Lent.{lent, first_edge}
 use Rattle.build_judge.proofs.first_edge.Given as goal
 
-abbrev pub invariant-loop-k : goal.invariant-loop-k
-invariant-loop-k l = (l.k ≤ l.w) × (l.e ≡ first_edge (lent l.domains l.layers []) l.k)
-
-abbrev pub decreases-loop-k : goal.decreases-loop-k
-decreases-loop-k l = l.w - l.k
+abbrev pub invariant-loop-layer : goal.invariant-loop-layer
+invariant-loop-layer l = l.e ≡ first_edge (lent l.fn.domains l.fn.layers []) (l.fn.v + l.layer-index)

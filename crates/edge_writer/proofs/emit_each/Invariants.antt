@@ -1,6 +1,6 @@
 -- `edge_writer::emit_each` meets its contract: before turn j, the words of the first j edges stand there. Assumes nothing.
-use Prim.Native.Nat.{◌≤◌, ◌-◌}
-use lib.ListN.{length}
+use mathlib.Core.Path.{◌≡◌}
+use Prim.Native.Nat.{◌*◌}
 use Rattle.lists.specs.Buffer.{Wrote}
 use Rattle.lists.specs.Upto.{up_to}
 use Rattle.cnf.specs.Clause.{words}
@@ -8,7 +8,4 @@ use Rattle.encoding.specs.Emit.{edge_from}
 use Rattle.edge_writer.proofs.emit_each.Given as goal
 
 abbrev pub invariant-loop-j : goal.invariant-loop-j
-invariant-loop-j l = (l.j ≤ length l.targets) × Wrote l.initial.out 0 (up_to l.j (λ j. words (edge_from l.node l.edge l.value l.reference l.targets j))) l.out l.p
-
-abbrev pub decreases-loop-j : goal.decreases-loop-j
-decreases-loop-j l = length l.targets - l.j
+invariant-loop-j l = record { at : l.p ≡ 13 * l.j; wrote : Wrote l.initial.out 0 (up_to l.j (λ j. words (edge_from l.bases l.targets j))) l.out l.p }

@@ -7,4 +7,4 @@ pub returns : goal.returns
 returns g c =
     let read = c.in_ok-n.ensures in
     written_on_ok c.tell.result 32769 (omega arith) (g.R.Read.remaining c.args.from.now) (g.R.Read.remaining c.read_full.new.from) c.read_full.new.buf c.in_ok-n.n (search rules) read.in_bounds.0 read.bytes read.end
-    c.no_output-out.result c.run-answer.result c.run-answer.new.out (search rules) (search rules) c.run-answer.ensures (g.W.Write.contents c.args.w.now) (g.W.Write.contents c.tell.new.w) c.tell.ensures
+    _ c.run-answer.result c.run-answer.new.out (search rules) (search rules) c.run-answer.ensures (g.W.Write.contents c.args.w.now) (g.W.Write.contents c.tell.new.w) c.tell.ensures

@@ -1,8 +1,5 @@
--- `encoder::emit_options` meets its contract: before turn i, the first i options stand there. Assumes nothing.
-use mathlib.Core.List.{[]}
-use mathlib.Core.Path.{◌≡◌}
-use Prim.Native.Nat.{◌≤◌, ◌-◌}
-use lib.ListN.{length}
+-- `encoder::emit_options` meets its contract: before each turn the options gone through stand there. Assumes nothing.
+use Rattle.std.specs.Prelude.{◌≡◌, []}
 use Rattle.lists.specs.Buffer.{Wrote}
 use Rattle.lists.specs.Upto.{up_to}
 use Rattle.cnf.specs.Clause.{words}
@@ -11,8 +8,5 @@ use Rattle.diagram.specs.Numbers.{first_value}
 use Rattle.clauses.specs.Clauses.{edition1, option_clauses}
 use Rattle.encoder.proofs.emit_options.Given as goal
 
-abbrev pub invariant-loop-i : goal.invariant-loop-i
-invariant-loop-i l = (l.i ≤ length l.domains) × (l.before ≡ first_value (lent l.domains [] []) l.i) × Wrote l.initial.out l.at (up_to l.i (λ i. words (option_clauses edition1 (lent l.domains [] []) i))) l.out l.p
-
-abbrev pub decreases-loop-i : goal.decreases-loop-i
-decreases-loop-i l = length l.domains - l.i
+abbrev pub invariant-loop-k : goal.invariant-loop-k
+invariant-loop-k l = (l.before ≡ first_value (lent l.domains [] []) l.k-index) × Wrote l.initial.out l.at (up_to l.k-index (λ i. words (option_clauses edition1 (lent l.domains [] []) i))) l.out l.p

@@ -1,33 +1,18 @@
--- `entries::post` meets its contract: six stores, where there is room for them. Assumes nothing.
-use mathlib.Core.List.{List, [], ◌∷◌}
-use Prim.Native.Nat.{ℕ}
-use lib.Seq.{lt-length-sets}
-use native.Mathlib.Omega.{arith}
-use Rattle.entries.proofs.AnswerLaws.{left_short, six_posted}
+-- `entries::post` meets its contract: the entries are those of what is said. Assumes nothing.
+use Rattle.std.proofs.Common.{◌≡◌, sym, ◌∙◌, ap, ℕ, List, Result}
+use Rattle.lists.specs.Buffer.{over}
+use Rattle.refusal.specs.declared.Refusal.{Refusal}
+use Rattle.entries.specs.Answer.{entries, told}
+use Rattle.entries.proofs.AnswerLaws.{left_long}
 use Rattle.entries.proofs.post.Goals as goal
-use Rattle.entries.proofs.post.Lts
-use Rattle.entries.proofs.post.Reads
+use Rattle.entries.proofs.post.Goals.{in-Ok, in-Err}
 
-abbrev At-Else-answer-lt-ENTRIES : Type 0
-At-Else-answer-lt-ENTRIES = Lts.Else1 Reads.Pre Reads.Post
-
-abbrev lent : At-Else-answer-lt-ENTRIES → List ℕ
-lent c = c.args.answer.now
-
-pub returns-then-answer-lt-ENTRIES : goal.returns-then-answer-lt-ENTRIES
-returns-then-answer-lt-ENTRIES c = left_short c.if-answer-lt-ENTRIES.true
-
-pub bounds-answer-1 : goal.bounds-answer-1
-bounds-answer-1 c = let a = c.args in lt-length-sets (lent c) 0 (a.number ∷ []) (omega (arith, c.if-answer-lt-ENTRIES.false))
-
-pub bounds-answer-2 : goal.bounds-answer-2
-bounds-answer-2 c = let a = c.args in lt-length-sets (lent c) 0 (a.number ∷ a.place ∷ []) (omega (arith, c.if-answer-lt-ENTRIES.false))
-
-pub bounds-answer-3 : goal.bounds-answer-3
-bounds-answer-3 c = let a = c.args in lt-length-sets (lent c) 0 (a.number ∷ a.place ∷ a.a ∷ []) (omega (arith, c.if-answer-lt-ENTRIES.false))
-
-pub bounds-answer-4 : goal.bounds-answer-4
-bounds-answer-4 c = let a = c.args in lt-length-sets (lent c) 0 (a.number ∷ a.place ∷ a.a ∷ a.b ∷ []) (omega (arith, c.if-answer-lt-ENTRIES.false))
-
-pub returns : goal.returns
-returns c = six_posted _ _ _ _ _ _ _ c.if-answer-lt-ENTRIES.false
+pub returns-then-answer-ge-ENTRIES : goal.returns-then-answer-ge-ENTRIES
+unfolding over
+returns-then-answer-ge-ENTRIES g c =
+    let said = entries (g.A.Told.said c.args.said) in
+    let e : c.match-values.entries ≡ said = elim c.match-values.branch [
+      | in-Ok w ↦ w.entries-is ∙ sym (c.values.ensures ∙ ap (λ (r : Result (List ℕ) Refusal). entries (told r)) w.in-Ok.is)
+      | in-Err w ↦ w.entries-is ∙ sym (c.values.ensures ∙ ap (λ (r : Result (List ℕ) Refusal). entries (told r)) w.in-Err.is)
+    ] in
+    left_long c.if-answer-ge-ENTRIES.true (rw (c.copy_from_slice.ensures.after, e))

@@ -1,24 +1,16 @@
--- `layer_ends::layer_end` meets its contract: before each turn no layer passed one at a time is above. Assumes nothing.
-use Rattle.layer_ends.proofs.EndLaws.{step_none, step_more, step_above, step_end, past_end}
+-- `layer_ends::layer_end` meets its contract: past the eights, the first node above the layer. Assumes nothing.
+use Rattle.std.proofs.Common.{arith}
+use Rattle.layer_ends.proofs.EndLaws.{past_end, ends_within, ends_above, ends_last}
 use Rattle.layer_ends.proofs.layer_end.Goals as goal
 
 pub returns-then-layers-from : goal.returns-then-layers-from
 returns-then-layers-from c = past_end _ _ _ c.if-layers-from.true
 
-pub loop-v-init : goal.loop-v-init
-loop-v-init c = step_none _ _ _ c.skip_ahead-v.ensures.1
+pub overflow_add-result : goal.overflow_add-result
+overflow_add-result c = omega (arith, ends_within c.args.layers.now c.args.from c.args.layer _ c.if-layers-from.false c.skip_ahead-start.ensures.0 c.first_above.ensures c.skip_ahead-start.ensures.1 c.in-Some.is)
 
-pub returns-then-layer-layers : goal.returns-then-layer-layers
-returns-then-layer-layers c =
-    let l = c.before.before.before.before in
-    let k = l.before in
-    step_above l.loop-v.invariant _ k.if-layers-from.false k.skip_ahead-v.ensures.0 c.loop-v-test.true c.if-layer-layers.true
+pub returns-in-Some : goal.returns-in-Some
+returns-in-Some c = ends_above c.args.layers.now c.args.from c.args.layer _ c.if-layers-from.false c.skip_ahead-start.ensures.0 c.first_above.ensures c.in-Some.is
 
-pub loop-v-preserved : goal.loop-v-preserved
-loop-v-preserved c = step_more c.loop-v.invariant c.loop-v-test.true c.if-layer-layers.false
-
-pub returns : goal.returns
-returns c =
-    let l = c.before.before in
-    let k = l.before in
-    step_end l.loop-v.invariant _ k.if-layers-from.false k.skip_ahead-v.ensures.0 c.loop-v-test.false
+pub returns-in-None : goal.returns-in-None
+returns-in-None c = ends_last c.args.layers.now c.args.from c.args.layer _ c.if-layers-from.false c.skip_ahead-start.ensures.0 c.first_above.ensures c.skip_ahead-start.ensures.1 c.in-None.is

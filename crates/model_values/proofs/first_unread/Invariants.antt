@@ -1,12 +1,12 @@
 -- `model_values::first_unread` meets its contract: before turn i the options below i have each one true value and a mark for
 -- each value, their values stand in the build, and `before` counts the values of these options. Assumes nothing.
+use Rattle.std.specs.Prelude.{None}
 use mathlib.Core.Path.{◌≡◌}
 use mathlib.Core.List.{[]}
-use Prim.Native.Nat.{◌-◌, ◌≤◌}
+use Prim.Native.Nat.{◌≤◌}
 use lib.ListN.{length}
 use Rattle.lists.specs.Buffer.{Wrote}
 use Rattle.lists.specs.First.{first}
-use Rattle.lists.specs.declared.Found.TheVariants.{Nothing}
 use Rattle.diagram.specs.Lent.{lent}
 use Rattle.diagram.specs.Numbers.{first_value}
 use Rattle.naming.specs.Marks.{marked_true}
@@ -16,7 +16,4 @@ use Rattle.model_values.proofs.first_unread.Given as goal
 
 abbrev pub invariant-loop-i : goal.invariant-loop-i
 invariant-loop-i l = let d = lent l.domains [] [] in
-    (l.i ≤ length l.domains) × (l.before ≡ first_value d l.i) × (l.before ≤ length l.marks) × (first (unread d l.marks) l.i ≡ Nothing) × Wrote l.initial.build 0 (values_to d (marked_true l.marks) l.i) l.build l.i
-
-abbrev pub decreases-loop-i : goal.decreases-loop-i
-decreases-loop-i l = length l.domains - l.i
+    (l.before ≡ first_value d l.i) × (l.before ≤ length l.marks) × (first (unread d l.marks) l.i ≡ None) × Wrote l.initial.build 0 (values_to d (marked_true l.marks) l.i) l.build l.i

@@ -1,37 +1,29 @@
--- `name_reader::first_again` meets its contract: before the block at k no literal below k names a value variable again, and the
--- marks are what those literals say. Assumes nothing.
-use mathlib.Core.Path.{◌≡◌, refl, sym, ◌∙◌}
-use native.Mathlib.Omega.{arith}
-use lib.ListN.{length}
-use Rattle.lists.proofs.FirstLaws.{start, done, found_least, least_found, found_one}
+-- `name_reader::first_again` meets its contract: block by block. Assumes nothing.
+use Rattle.std.proofs.Common.{sym, ◌∙◌, arith}
+use Rattle.lists.proofs.FirstLaws.{start, found_least, least_found}
+use Rattle.name_reader.proofs.BlockLaws.{within, rest_is, passed_over}
 use Rattle.name_reader.proofs.first_again.Goals as goal
 
-pub loop-k-init : goal.loop-k-init
-loop-k-init c = (omega arith, (start _, c.requires.marks))
+pub loop-block-init : goal.loop-block-init
+loop-block-init c = let g = c.into_iter-block-iterator.ensures.into_iter_gives in (omega arith, rw g c.chunks-block-items.ensures.rest, rw g c.chunks-block-items.ensures.size, (start _, c.requires.marks))
 
-pub again_in_block-requires : goal.again_in_block-requires
-again_in_block-requires c =
-    let e = c.before in
-    let l = e.before.before in
-    let s = l.requires in
-    record { values_bound = (s.values_bound.0, s.values_bound.1, omega (arith, e.block_end-end.ensures.0), e.block_end-end.ensures.1, e.block_end-end.ensures.2); noted_to = l.loop-k.invariant.1 }
+pub returns-in-Some-search_again-clause-value : goal.returns-in-Some-search_again-clause-value
+returns-in-Some-search_again-clause-value c =
+    let l = c.loop-block in
+    let w = found_least _ _ _ (sym c.search_again.ensures.value ∙ c.in-Some-search_again.is) in
+    let h = within c.args.literals.now l.from c.in-Some.block.now _ (sym l.invariant.1 ∙ c.in-Some.ensures.steps.1.0) l.invariant.0 in
+    sym (least_found _ _ _ (omega (arith, w.0, h)) w.1 w.2)
 
-pub returns-in-At : goal.returns-in-At
-returns-in-At c =
-    let f = c.before in
-    let e = f.before.before in
-    let w = found_least _ _ _ (sym f.again_in_block.ensures.value ∙ c.in-At.is) in
-    record { value = sym (least_found _ _ _ (omega (arith, w.0, e.block_end-end.ensures.1)) w.1 w.2); marks_2 = λ q. absurd (found_one _ q refl) }
+pub loop-block-preserved-in_default : goal.loop-block-preserved-in_default
+loop-block-preserved-in_default c =
+    let l = c.loop-block in
+    let s = c.in-Some.ensures.steps in
+    let n = sym l.invariant.1 ∙ s.1.0 in
+    (within _ l.from _ _ n l.invariant.0, rest_is _ l.from _ _ n, s.0 ∙ l.invariant.2, (sym c.search_again.ensures.value ∙ c.in_default.is, c.search_again.ensures.marks c.in_default.is))
 
-pub loop-k-smaller : goal.loop-k-smaller
-loop-k-smaller c = let e = c.before.before.before in omega (arith, e.block_end-end.ensures.0, e.block_end-end.ensures.1)
-
-pub loop-k-preserved : goal.loop-k-preserved
-loop-k-preserved c =
-    let f = c.before in
-    let e = f.before.before in
-    let q = c.in_default.is in
-    (e.block_end-end.ensures.1, (sym f.again_in_block.ensures.value ∙ q, f.again_in_block.ensures.marks q))
-
-pub returns : goal.returns
-returns c = let l = c.loop-k in let q : l.k ≡ length c.args.literals.now = omega arith in record { value = done _ _ _ l.invariant.1.0 l.invariant.0 c.loop-k-test.false; marks_2 = λ e. rw (← q) l.invariant.1.1 }
+pub loop-block-preserved : goal.loop-block-preserved
+loop-block-preserved c =
+    let l = c.loop-block in
+    let s = c.in-Some.ensures.steps in
+    let n = sym l.invariant.1 ∙ s.1.0 in
+    (within _ l.from _ _ n l.invariant.0, rest_is _ l.from _ _ n, s.0 ∙ l.invariant.2, passed_over _ l.from _ _ n c.args.values l.invariant.0 (sym c.has_value.ensures ∙ c.if-has_value.false) l.invariant.3)

@@ -1,12 +1,11 @@
--- `name_reader::first_again` meets its contract: before the block at k no literal below k names a value variable again, and the
--- marks are what those literals say. Assumes nothing.
-use Prim.Native.Nat.{◌≤◌, ◌-◌}
-use lib.ListN.{length}
+-- `name_reader::first_again` meets its contract: before the block at `from` no literal before it names a value variable again,
+-- and the marks are what those literals say. Assumes nothing.
+use mathlib.Core.Path.{◌≡◌}
+use Prim.Native.Nat.{◌≤◌}
+use lib.ListN.{length, drop}
+use Rattle.std.specs.Slice.Iter.{chunks_rest, chunks_size}
 use Rattle.naming.specs.Marks.{NotedTo}
 use Rattle.name_reader.proofs.first_again.Given as goal
 
-abbrev pub invariant-loop-k : goal.invariant-loop-k
-invariant-loop-k l = (l.k ≤ length l.literals) × NotedTo l.values l.literals l.k l.marks
-
-abbrev pub decreases-loop-k : goal.decreases-loop-k
-decreases-loop-k l = length l.literals - l.k
+abbrev pub invariant-loop-block : goal.invariant-loop-block
+invariant-loop-block l = (l.from ≤ length l.literals) × (chunks_rest l.block-iterator ≡ drop l.from l.literals) × (chunks_size l.block-iterator ≡ 64) × NotedTo l.values l.literals l.from l.marks

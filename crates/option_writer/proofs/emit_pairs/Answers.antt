@@ -7,18 +7,18 @@ use Rattle.option_writer.proofs.emit_pairs.Invariants.{block}
 use Rattle.option_writer.proofs.emit_pairs.Goals as goal
 
 pub loop-i-init : goal.loop-i-init
-loop-i-init c = (omega arith, begin _)
+loop-i-init c = begin _
 
 pub emit_pairs_after-p-requires : goal.emit_pairs_after-p-requires
 emit_pairs_after-p-requires c =
     let a = c.args in
-    record { n_in_bounds = room (λ i. words (block a.before a.k i)) c.loop-i.invariant.1 (each_room a.k (block a.before a.k) a.at _ c.requires.k_in_bounds) c.loop-i-test.true; n_bound = omega (arith, c.loop-i-test.true) }
+    record { n_in_bounds = room (λ i. words (block a.before a.k i)) c.loop-i.invariant (each_room a.k (block a.before a.k) a.at _ c.requires.k_in_bounds) c.loop-i-test.true; n_bound = omega arith }
 
 pub loop-i-preserved : goal.loop-i-preserved
-loop-i-preserved c = let a = c.args in (omega (arith, c.loop-i-test.true), turn (λ i. words (block a.before a.k i)) c.loop-i.invariant.1 c.emit_pairs_after-p.ensures)
+loop-i-preserved c = let a = c.args in turn (λ i. words (block a.before a.k i)) c.loop-i.invariant c.emit_pairs_after-p.ensures
 
 pub shape_of-out : goal.shape_of-out
-shape_of-out c = kept c.loop-i.invariant.1
+shape_of-out c = kept c.loop-i.invariant
 
 pub returns : goal.returns
-returns c = let a = c.args in let l = c.loop-i in each_wrote a.k (block a.before a.k) (finish (λ i. words (block a.before a.k i)) l.invariant.1 l.invariant.0 c.loop-i-test.false)
+returns c = let a = c.args in each_wrote a.k (block a.before a.k) (finish (λ i. words (block a.before a.k i)) c.loop-i.invariant (omega arith) (omega arith))

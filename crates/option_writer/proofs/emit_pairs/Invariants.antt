@@ -1,6 +1,6 @@
 -- `option_writer::emit_pairs` meets its contract: before turn i, the first i rows stand there. Assumes nothing.
 use mathlib.Core.List.{List}
-use Prim.Native.Nat.{ℕ, ◌≤◌, ◌-◌}
+use Prim.Native.Nat.{ℕ, ◌-◌}
 use Rattle.lists.specs.Buffer.{Wrote}
 use Rattle.lists.specs.Upto.{up_to}
 use Rattle.cnf.specs.Clause.{Clause, words}
@@ -11,7 +11,4 @@ abbrev pub block : ℕ → ℕ → ℕ → List Clause
 block b k i = pairs_after b i (k - 1 - i)
 
 abbrev pub invariant-loop-i : goal.invariant-loop-i
-invariant-loop-i l = (l.i ≤ l.k) × Wrote l.initial.out l.at (up_to l.i (λ i. words (block l.before l.k i))) l.out l.p
-
-abbrev pub decreases-loop-i : goal.decreases-loop-i
-decreases-loop-i l = l.k - l.i
+invariant-loop-i l = Wrote l.initial.out l.at (up_to l.i (λ i. words (block l.before l.k i))) l.out l.p

@@ -1,25 +1,24 @@
--- `sizes::pair_count` meets its contract: n is the pairs of the options below i, cut. Assumes nothing.
-use mathlib.Core.List.{List}
-use mathlib.Core.Path.{◌≡◌}
-use Prim.Native.Nat.{ℕ}
-use native.Mathlib.Omega.{arith}
-use lib.ListN.{length, get_or}
-use Rattle.lists.proofs.UptoLaws.{sum_none, sum_more}
+-- `sizes::pair_count` meets its contract: the sum that stops at the largest number of 64 bits is, cut, the whole sum cut.
+-- Assumes nothing.
+use Rattle.std.proofs.Common.{◌≡◌, ◌∙◌, ap, List, [], ◌∷◌, ℕ, ◌+◌, ◌-◌, ◌^◌, min, length, rules, arith}
+use Rattle.std.specs.List.{fold}
+use Rattle.lists.proofs.IterLaws.{sum_by_to}
 use Rattle.clauses.specs.Clauses.{pair_count}
-use Rattle.pair_counts.proofs.PairLaws.{product_within}
+use Rattle.sizes.specs.Tallied.{cut, pair_sum}
 use Rattle.sizes.proofs.pair_count.Goals as goal
 
-abbrev pairs_at : List ℕ → ℕ → ℕ
-pairs_at domains i = pair_count (get_or domains i 0)
+abbrev top : ℕ
+top = 2 ^ 64 - 1
 
-pub loop-i-init : goal.loop-i-init
-loop-i-init c = (omega arith, omega (arith, sum_none (pairs_at c.args.domains.now)))
+stopped : (f : ℕ → ℕ) (a b : ℕ) (xs : List ℕ) → b ≡ min a top → fold (λ n k. min (n + f k) top) b xs ≡ min (fold (λ n k. n + f k) a xs) top
+stopped f a b [] e = e
+stopped f a b (x ∷ xs) e = stopped f (a + f x) (min (b + f x) top) xs (omega arith)
 
-pub overflow_add-n : goal.overflow_add-n
-overflow_add-n c = let d = c.args.domains.now in let k = get_or d c.loop-i.i 0 in omega (arith, c.pairs_of.ensures, product_within 4294967295 k (omega (arith, c.type_inv.domains c.loop-i.i)))
-
-pub loop-i-preserved : goal.loop-i-preserved
-loop-i-preserved c = let t = c.before.before.before.before in let l = t.loop-i in (omega (arith, t.loop-i-test.true), omega (arith, l.invariant.1, c.cut_to_32-n.ensures, c.pairs_of.ensures, sum_more (pairs_at t.args.domains.now) l.i))
+cut_once : (xs : List ℕ) → cut (fold (λ n k. min (n + pair_count k) top) 0 xs) ≡ cut (pair_sum xs (length xs))
+cut_once xs = omega (arith, stopped pair_count 0 0 xs (omega arith), sum_by_to pair_count xs 0)
 
 pub returns : goal.returns
-returns c = let l = c.loop-i in let q : l.i ≡ length c.args.domains.now = omega (arith, l.invariant.0) in rw (← q) l.invariant.1
+returns c =
+    let d = c.args.domains.now in
+    let e : c.fold-pairs.result ≡ fold (λ n k. min (n + pair_count k) top) 0 d = search rules in
+    c.cut_to_32.ensures ∙ ap cut e ∙ cut_once d

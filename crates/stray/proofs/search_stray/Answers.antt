@@ -1,16 +1,13 @@
--- `stray::search_stray` meets its contract: none below j strays. Assumes nothing.
-use Rattle.std.proofs.Common.{sym, ◌∙◌, arith, rules}
-use Rattle.lists.proofs.FirstLaws.{start, pass, stop, done}
+-- `stray::search_stray` meets its contract: what `position` finds. Assumes nothing.
+use Rattle.std.proofs.Common.{rules, ◌∙◌}
+use Rattle.std.proofs.lemmas.Iterator.{YieldsList-from_slice}
+use Rattle.std.proofs.lemmas.Iterator.Search.{position_from_yields_List}
+use borrow.Author.Tests.{tests}
+use Rattle.lists.proofs.IterLaws.{position_first}
+use Rattle.stray.specs.Stray.{stray}
 use Rattle.stray.proofs.search_stray.Goals as goal
 
-pub loop-j-init : goal.loop-j-init
-loop-j-init c = (omega arith, start _)
-
-pub returns-then-is_stray : goal.returns-then-is_stray
-returns-then-is_stray c = let l = c.before.before.before.before in stop _ _ _ l.loop-j.invariant.1 (sym c.is_stray.ensures ∙ c.if-is_stray.true) l.loop-j-test.true
-
-pub loop-j-preserved : goal.loop-j-preserved
-loop-j-preserved c = (search rules, pass _ _ c.loop-j.invariant.1 (sym c.is_stray.ensures ∙ c.if-is_stray.false))
-
 pub returns : goal.returns
-returns c = let l = c.loop-j in done _ _ _ l.invariant.1 l.invariant.0 c.loop-j-test.false
+returns c =
+    position_from_yields_List (stray c.args.range) _ _ c.position.result c.position.ensures.ran (YieldsList-from_slice c.args.part.now cc) (λ x b q k. search (rules, tests))
+    ∙ position_first (stray c.args.range) c.args.part.now 0

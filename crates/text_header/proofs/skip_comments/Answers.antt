@@ -1,18 +1,19 @@
 -- `text_header::skip_comments` meets its contract: before each turn the comment lines are passed up to i. Assumes nothing.
-use Rattle.text_header.proofs.CommentLaws.{skipping_none, skipping_on, skipping_new, skipping_stop, skipping_all}
+use mathlib.Core.Path.{◌≡◌, ◌∙◌}
+use native.Mathlib.Omega.{arith}
+use lib.ListN.{length}
+use Rattle.text_header.proofs.CommentLaws.{skipping_on, skipping_new, skipping_stop, skipping_all}
 use Rattle.text_header.proofs.skip_comments.Goals as goal
+use Rattle.text_header.proofs.skip_comments.Goals.{then-inside, else-inside+then-b-eq99}
 
-pub loop-i-init : goal.loop-i-init
-loop-i-init c = skipping_none _
-
-pub loop-i-preserved-then-inside : goal.loop-i-preserved-then-inside
-loop-i-preserved-then-inside c = let l = c.before.before.before in skipping_on _ _ l.loop-i.invariant l.loop-i-test.true c.if-inside.true
-
-pub returns-then-b-ne99 : goal.returns-then-b-ne99
-returns-then-b-ne99 c = let l = c.before.before.before.before in skipping_stop _ _ l.loop-i.invariant l.loop-i-test.true c.if-inside.false c.if-b-ne99.true
+pub returns-else-b-eq99 : goal.returns-else-b-eq99
+returns-else-b-eq99 c = skipping_stop _ _ c.loop-i.invariant c.loop-i-test.true c.if-inside.false c.if-b-eq99.false
 
 pub loop-i-preserved : goal.loop-i-preserved
-loop-i-preserved c = let l = c.before.before.before.before in skipping_new _ _ l.loop-i.invariant l.loop-i-test.true c.if-inside.false c.if-b-ne99.false
+loop-i-preserved c = elim c.if-inside.branch [
+  | then-inside w ↦ rw w.inside-is (skipping_on _ _ c.loop-i.invariant c.loop-i-test.true w.if-inside.true)
+  | else-inside+then-b-eq99 w ↦ rw w.inside-is (skipping_new _ _ c.loop-i.invariant c.loop-i-test.true w.if-inside.false w.if-b-eq99.true)
+]
 
 pub returns : goal.returns
-returns c = skipping_all _ _ c.loop-i.invariant c.loop-i-test.false
+returns c = let e : length c.args.text.now ≡ c.loop-i.i = omega arith in e ∙ skipping_all _ _ c.loop-i.invariant c.loop-i-test.false

@@ -1,11 +1,6 @@
 -- `text_header::skip_comments` meets its contract: before each turn the comment lines are passed up to i. Assumes nothing.
-use Prim.Native.Nat.{◌-◌}
-use lib.ListN.{length}
 use Rattle.text_header.proofs.CommentLaws.{Skipping}
 use Rattle.text_header.proofs.skip_comments.Given as goal
 
 abbrev pub invariant-loop-i : goal.invariant-loop-i
 invariant-loop-i l = Skipping l.text l.i l.inside
-
-abbrev pub decreases-loop-i : goal.decreases-loop-i
-decreases-loop-i l = length l.text - l.i

@@ -1,11 +1,6 @@
--- `text_reader::fill_words` meets its contract: before turn k the first k words stand at the front. Assumes nothing.
-use Prim.Native.Nat.{◌-◌, ◌≤◌}
-use lib.ListN.{length}
+-- `text_reader::fill_words` meets its contract: before each turn the words so far stand in the list. Assumes nothing.
 use Rattle.text_reader.proofs.FillLaws.{Filling}
 use Rattle.text_reader.proofs.fill_words.Given as goal
 
-abbrev pub invariant-loop-k : goal.invariant-loop-k
-invariant-loop-k l = (l.k ≤ l.words) × Filling 1000000 l.text l.from l.initial.out l.i l.k l.out
-
-abbrev pub decreases-loop-k : goal.decreases-loop-k
-decreases-loop-k l = length l.text - l.i
+abbrev pub invariant-loop-entry : goal.invariant-loop-entry
+invariant-loop-entry l = Filling 1000000 l.text l.from l.initial.entry-items l.next l.entry-index l.entry-items

@@ -6,7 +6,7 @@ use Rattle.text_tokens.proofs.CountLaws.{Counting}
 use Rattle.text_tokens.proofs.judge_tokens.Given as goal
 
 abbrev pub invariant-loop-i : goal.invariant-loop-i
-invariant-loop-i l = Counting l.variables l.text l.from l.i l.words l.clauses l.closed
+invariant-loop-i l = Counting l.variables l.text l.from l.i l.pass.words l.pass.clauses l.pass.closed
 
 abbrev pub decreases-loop-i : goal.decreases-loop-i
 decreases-loop-i l = length l.text - l.i

@@ -1,11 +1,6 @@
--- `text_words::survey_words` meets its contract: the words below k are surveyed. Assumes nothing.
-use Prim.Native.Nat.{◌≤◌, ◌-◌}
-use lib.ListN.{length}
+-- `text_words::survey_words` meets its contract: the words so far are surveyed. Assumes nothing.
 use Rattle.text_words.specs.Survey.{Surveyed}
 use Rattle.text_words.proofs.survey_words.Given as goal
 
-abbrev pub invariant-loop-k : goal.invariant-loop-k
-invariant-loop-k l = (l.k ≤ length l.words) × Surveyed l.variables l.words l.k l.zeros l.beyond l.size
-
-abbrev pub decreases-loop-k : goal.decreases-loop-k
-decreases-loop-k l = length l.words - l.k
+abbrev pub invariant-loop-word : goal.invariant-loop-word
+invariant-loop-word l = Surveyed l.variables l.words l.word-index l.survey.zeros l.survey.beyond l.survey.size

@@ -9,4 +9,4 @@ pub returns-then-is_ended : goal.returns-then-is_ended
 returns-then-is_ended c = sym (nought_judged c.args.text.now c.args.at c.args.variables (omega arith) c.requires.0 c.requires.1 (sym c.is_ended.ensures ∙ c.if-is_ended.true))
 
 pub returns : goal.returns
-returns c = c.judge_read.ensures ∙ ap (read_judged c.args.variables c.args.text.now) c.read.ensures ∙ sym (zero_judged c.args.text.now c.args.at c.args.variables (omega arith) c.requires.0 c.requires.1)
+returns c = c.judge_read.ensures ∙ ap (read_judged c.args.variables c.args.text.now c.args.at) c.read.ensures ∙ sym (zero_judged c.args.text.now c.args.at c.args.variables (omega arith) c.requires.0 c.requires.1)

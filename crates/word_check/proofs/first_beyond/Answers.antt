@@ -1,34 +1,16 @@
--- `word_check::first_beyond` meets its contract: no word below k is beyond V. Assumes nothing.
-use mathlib.Core.Path.{◌≡◌, sym, ◌∙◌, ap}
-use native.Mathlib.Omega.{arith}
-use borrow.Author.Rules.{rules}
-use mir.Syntax.{w32}
-use mir.ValLaws.{to_z-of_z}
+-- `word_check::first_beyond` meets its contract: what `position` finds. Assumes nothing.
+use Rattle.std.proofs.Common.{rules, ◌∙◌}
+use Rattle.std.specs.Prelude.{ℤ, pos}
+use Rattle.std.proofs.lemmas.Iterator.{YieldsList-from_slice}
+use Rattle.std.proofs.lemmas.Iterator.Search.{position_from_yields_List}
+use borrow.Author.Tests.{tests}
+use Rattle.lists.proofs.IterLaws.{position_first}
 use Rattle.lists.specs.Signed.{beyond}
-use Rattle.lists.proofs.FirstLaws.{start, pass, stop, done}
-use Rattle.cnf.specs.Lent.{word, beyond_at}
 use Rattle.word_check.proofs.first_beyond.Goals as goal
-use Rattle.word_check.proofs.first_beyond.Lts
-use Rattle.word_check.proofs.first_beyond.Reads
-use Rattle.word_check.proofs.first_beyond.Tie
-
-abbrev At-After-is_beyond : Type 0
-At-After-is_beyond = Lts.After-is_beyond Tie.the-claims Reads.Pre Reads.Post goal.the-invariant-loop-k goal.the-decreases-loop-k
-
-said : (c : At-After-is_beyond) → let l = c.before.before.before in let s = l.args in c.is_beyond.result ≡ beyond_at s.variables s.words.now l.loop-k.k
-said c = let l = c.before.before.before in let s = l.args in c.is_beyond.ensures ∙ ap (beyond s.variables) {y = word s.words.now l.loop-k.k} (to_z-of_z w32 _ (record { sfits = c.is_beyond-arg-1.given }))
-
-pub returns-then-not-some : goal.returns-then-not-some
-returns-then-not-some c = rw (c.if-not-some.true)
-
-pub loop-k-init : goal.loop-k-init
-loop-k-init c = (omega arith, start _)
-
-pub returns-then-is_beyond : goal.returns-then-is_beyond
-returns-then-is_beyond c = let l = c.before.before.before in let e = l.before.before in rw (e.if-not-some.false) (stop _ _ _ l.loop-k.invariant.1 (sym (said c.before) ∙ c.if-is_beyond.true) l.loop-k-test.true)
-
-pub loop-k-preserved : goal.loop-k-preserved
-loop-k-preserved c = (search rules, pass _ _ c.loop-k.invariant.1 (sym (said c.before) ∙ c.if-is_beyond.false))
 
 pub returns : goal.returns
-returns c = let l = c.before in let e = l.before in rw (e.if-not-some.false) (done _ _ _ l.loop-k.invariant.1 l.loop-k.invariant.0 c.loop-k-test.false)
+returns c =
+    let e =
+    position_from_yields_List (λ (x : ℤ). beyond c.args.variables x) _ _ c.position.result c.position.ensures.ran (YieldsList-from_slice c.args.words.now cc) (λ x b q k. search (rules, tests))
+    ∙ position_first (λ x. beyond c.args.variables x) c.args.words.now (pos 0)
+    in rw (c.if-not-some.false) e

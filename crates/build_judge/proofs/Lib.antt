@@ -1,0 +1,2 @@
+-- The laws that this crate's answers cite. Assumes nothing.
+mod WalkLaws

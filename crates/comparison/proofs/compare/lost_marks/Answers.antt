@@ -1,9 +1,0 @@
--- `comparison::compare::lost_marks` is safe and ends: the measure is how many turns of the loop are left. Nothing has to
--- hold from turn to turn. Assumes nothing.
-use Rattle.comparison.proofs.compare.lost_marks.Goals as goal
-
-pub loop-k-init : goal.loop-k-init
-loop-k-init c = tt
-
-pub loop-k-preserved : goal.loop-k-preserved
-loop-k-preserved c = tt

@@ -1,0 +1,2 @@
+-- The laws of this crate that others cite. Assumes nothing.
+pub mod EndedLaws

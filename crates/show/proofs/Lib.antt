@@ -1,2 +1,0 @@
--- Lemmas of this crate. Assumes nothing.
-mod Shows

@@ -1,0 +1,2 @@
+-- What this crate defines. Assumes nothing.
+pub mod Words
