@@ -5,3 +5,4 @@ pub mod PositiveLaws
 pub mod BytesLaws
 pub mod WriterLaws
 pub mod FieldLaws
+pub mod ReadLaws

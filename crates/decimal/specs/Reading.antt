@@ -1,5 +1,5 @@
 -- The one reading of a decimal at a place of a text. Assumes nothing.
-use Rattle.std.specs.Prelude.{Bool, false, cond, not, ◌&&◌, Option, Some, None, List, [], ◌∷◌, ℕ, ◌+◌, min, leb, ltb, eqb, length, get_or, drop}
+use Rattle.std.specs.Prelude.{Bool, false, cond, not, ◌&&◌, Option, Some, None, Result, Ok, Err, List, [], ◌∷◌, ℕ, ◌+◌, min, leb, ltb, eqb, length, get_or, drop}
 use Rattle.decimal.specs.Digits.{is_digit, is_decimal, value}
 use Rattle.decimal.specs.Bytes.{has_at}
 use Rattle.decimal.specs.declared.Reading.{Reading}
@@ -25,6 +25,10 @@ decimal_at text at = is_decimal (run (drop at text))
 -- what is read there: the digits, if they are a decimal
 abbrev pub reading_at : List ℕ → ℕ → Option Reading
 reading_at text at = cond (decimal_at text at) (Some (digits_at text at)) None
+
+-- the same with the digits that are none: a decimal, or else what stands there
+abbrev pub read_at : List ℕ → ℕ → Result Reading Reading
+read_at text at = cond (decimal_at text at) (Ok (digits_at text at)) (Err (digits_at text at))
 
 -- a decimal was read, and the byte b follows it
 abbrev pub field_at : List ℕ → Option Reading → ℕ → Bool

@@ -44,5 +44,5 @@ pub fn read_positive(text: &[u8], at: usize) -> Option<Reading>
             end: at + few.count,
         });
     }
-    decimal_reader::read(text, at)
+    decimal_reader::read(text, at).ok()
 }

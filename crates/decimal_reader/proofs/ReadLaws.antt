@@ -5,18 +5,13 @@ use mathlib.Core.List.{List, [], ◌∷◌}
 use Prim.Native.Nat.{ℕ, ◌+◌, ◌-◌, ◌*◌, ◌≤◌, ◌<◌}
 use native.Mathlib.Omega.{arith}
 use lib.ListN.{length, get_or, take, drop, length-drop, drop_of_length-le}
-use Rattle.std.specs.Prelude.{Some, None}
-use Rattle.std.specs.Bool.{then_some}
+use Rattle.std.specs.Prelude.{Result, Ok, Err}
 use Rattle.std.specs.List.{slice_range}
 use Rattle.decimal.specs.Digits.{is_digit, all_digits, plain, is_decimal, value_from, value}
-use Rattle.decimal.specs.Reading.{run, cut, reading_at}
+use Rattle.decimal.specs.Reading.{run, cut, read_at}
+use Rattle.decimal.specs.declared.Reading.{Reading}
 use Rattle.decimal.proofs.BytesLaws.{rest_at}
 use Rattle.decimal.proofs.RunLaws.{run_more, run_end, length_run, run_decimal, take_run}
-
--- a value where a test holds
-cond_some : {X : Type 0} (b : Bool) (x : X) → then_some b x ≡ cond b (Some x) None
-cond_some true x = refl
-cond_some false x = refl
 
 -- a number that was cut stays cut, whatever digits follow
 cut_from : (v : ℕ) (bs : List ℕ) → cut (value_from (cut v) bs) ≡ cut (value_from v bs)
@@ -62,10 +57,13 @@ module _ (text : List ℕ) (at : ℕ) (rest : List ℕ) (r : rest ≡ slice_rang
   pub end_inside : at ≤ length text → at + n ≤ length text
   end_inside h = omega (arith, d.1, length_run rest, ap length left, length-drop at text)
 
-  pub read_there : (good : Bool) → good ≡ plain (take n rest) → then_some good (record { value = v; end = at + n }) ≡ reading_at text at
-  read_there good g = cond_some good _ ∙ rw (g, d.0, d.1, take_run, left, run_decimal)
+  pub read_there : (good : Bool) → good ≡ plain (take n rest) → cond good (Ok (record { value = v; end = at + n })) (Err (record { value = v; end = at + n })) ≡ read_at text at
+  read_there good g = rw (g, d.0, d.1, take_run, left, run_decimal)
 
--- past the text's end nothing is read
-pub none_read : (text : List ℕ) (at : ℕ) → length text < at → None ≡ reading_at text at
-unfolding run is_decimal all_digits plain
-none_read text at h = let l : length text ≤ at = omega arith in rw (drop_of_length-le text l)
+-- past the text's end no digit stands
+none_said : (at : ℕ) → at + 0 ≡ at → ◌≡◌ {A = Result Reading Reading} (Err (record { value = 0; end = at })) (cond (is_decimal []) (Ok (record { value = cut (value []); end = at + 0 })) (Err (record { value = cut (value []); end = at + 0 })))
+unfolding is_decimal all_digits plain value value_from
+none_said at e = rw e
+
+pub none_there : (text : List ℕ) (at : ℕ) → length text < at → Err (record { value = 0; end = at }) ≡ read_at text at
+none_there text at h = rw (run_end text at (omega arith)) (none_said at (omega arith))

@@ -3,7 +3,7 @@
 
 ghost use Rattle.std.specs.Prelude.{◌≡◌, ◌+◌, ◌-◌, ◌*◌, ◌≤◌, length};
 ghost use Rattle.decimal.specs.Digits.{plain, value};
-ghost use Rattle.decimal.specs.Reading.{run, cut, reading_at};
+ghost use Rattle.decimal.specs.Reading.{run, cut, read_at};
 
 use decimal::{Digits, Reading};
 
@@ -47,14 +47,21 @@ fn is_plain(digits: &[u8]) -> bool
     }
 }
 
-// The decimal that stands in the text from `at` on.
-pub fn read(text: &[u8], at: usize) -> Option<Reading>
-    ensures { result ≡ reading_at text.now at }
+// The decimal that stands in the text from `at` on; or else the digits there, which are none.
+pub fn read(text: &[u8], at: usize) -> Result<Reading, Reading>
+    ensures { result ≡ read_at text.now at }
 {
-    let rest = text.get(at..)?;
+    let Some(rest) = text.get(at..) else {
+        return Err(Reading { value: 0, end: at });
+    };
     let Digits { value, count } = first_digits(rest);
-    is_plain(&rest[..count]).then_some(Reading {
+    let read = Reading {
         value,
         end: at + count,
-    })
+    };
+    if is_plain(&rest[..count]) {
+        Ok(read)
+    } else {
+        Err(read)
+    }
 }

@@ -13,7 +13,7 @@ pub fn read_line(text: &[u8], at: usize, key: &[u8]) -> Option<Line>
     if !keys::has(text, at, key) {
         return None;
     }
-    let read = decimal_reader::read(text, at + key.len());
+    let read = decimal_reader::read(text, at + key.len()).ok();
     let field = keys::field(text, read, b'\n')?;
     Some(Line {
         value: u32::try_from(field.value).ok()?,

@@ -41,9 +41,9 @@ fn header_at(text: &[u8], start: usize) -> Option<Header>
     if !keys::has(text, start, &HEAD) {
         return None;
     }
-    let read = decimal_reader::read(text, start + HEAD.len());
+    let read = decimal_reader::read(text, start + HEAD.len()).ok();
     let variables = keys::field(text, read, b' ')?;
-    let read = decimal_reader::read(text, variables.end + 1);
+    let read = decimal_reader::read(text, variables.end + 1).ok();
     let clauses = keys::field(text, read, b'\n')?;
     Some(Header {
         start,

@@ -27,13 +27,13 @@ fn word_at(text: &[u8], at: usize) -> Word
     ensures { (result.value ≡ word_of (lead (drop at text.now))) × (result.end ≡ at + length (lead (drop at text.now))) }
 {
     if text[at] == b'-' {
-        let read = decimal_reader::read(text, at + 1).unwrap();
+        let read = decimal_reader::read(text, at + 1).ok().unwrap();
         return Word {
             value: -(read.value as i32),
             end: read.end,
         };
     }
-    let read = decimal_reader::read(text, at).unwrap();
+    let read = decimal_reader::read(text, at).ok().unwrap();
     Word {
         value: read.value as i32,
         end: read.end,
@@ -53,6 +53,7 @@ fn skip_gaps(text: &[u8], at: usize) -> usize
 }
 
 // The words of all tokens from `from` on, one for each entry of the list.
+#[inline(never)]
 fn fill_words(text: &[u8], from: usize, out: &mut [i32])
     requires { (chain (token_rules 1000000 (tokens_from text.now from)) ≡ Ok tt) × (length (tokens_from text.now from) ≡ length out.old) }
     ensures { out.new ≡ words_of (tokens_from text.now from) }

@@ -16,6 +16,7 @@ pub struct Pass {
 }
 
 // Judges the tokens from the left, and counts.
+#[inline(never)]
 pub fn judge_tokens(text: &[u8], from: usize, variables: u32) -> Result<Pass, Refusal>
     ensures { result ≡ pass_of variables (tokens_from text.now from) }
 {

@@ -54,7 +54,7 @@ fn judge_zero(text: &[u8], at: usize, variables: u32) -> Result<Word, Refusal>
             end: at + 1,
         });
     }
-    judge_read(text, at, decimal_reader::read(text, at), variables)
+    judge_read(text, at, decimal_reader::read(text, at).ok(), variables)
 }
 
 // The token at `at`, for variables up to V; where a separator stands there, or nothing, it is misformed.
