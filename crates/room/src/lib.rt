@@ -7,5 +7,5 @@ ghost use Rattle.std.specs.Prelude.{◌≡◌, ◌+◌, leb};
 pub fn has_room(size: usize, at: usize, count: usize) -> bool
     ensures { result ≡ leb (at + count) size }
 {
-    at.checked_add(count).is_some_and(|end| end <= size)
+    size.checked_sub(count).is_some_and(|last| at <= last)
 }
