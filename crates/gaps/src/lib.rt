@@ -4,12 +4,12 @@
 ghost use Rattle.std.specs.Prelude.{◌≡◌, drop};
 ghost use Rattle.dimacs.specs.Tokens.{is_gap, ended};
 
-// Whether a byte parts tokens.
+// Whether a byte parts tokens. One comparison tells that a byte above them all does not.
 #[tactic(auto, unfolding(dimacs::specs::Tokens::is_gap))]
 pub fn is_gap(b: u8) -> bool
     ensures { result ≡ is_gap b }
 {
-    matches!(b, b' ' | b'\t' | b'\r' | b'\n')
+    b <= b' ' && matches!(b, b' ' | b'\t' | b'\r' | b'\n')
 }
 
 // Whether no token goes on at `at`.
