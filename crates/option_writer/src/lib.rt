@@ -25,8 +25,7 @@ fn emit_pairs_after(out: &mut [i32], at: usize, before: u32, i: u32, n: u32) -> 
     let mut p = at;
     for t in 0..n {
         let b = Diagram::value_variable(before, i + 1 + t) as i32;
-        out[p..p + 3].copy_from_slice(&[-a, -b, 0]);
-        p += 3;
+        p += clause_writer::emit_words(&mut out[p..p + 3], [-a, -b, 0]);
     }
     p
 }

@@ -1,5 +1,5 @@
 -- `option_writer::emit_pairs_after` meets its contract: before turn t, the first t pairs stand there. Assumes nothing.
-use mathlib.Core.Path.{◌≡◌, ap, ◌∙◌}
+use mathlib.Core.Path.{◌≡◌, ap}
 use mathlib.Core.List.{List}
 use Prim.Native.Nat.{ℕ, ◌≤◌, ◌<◌, ◌+◌}
 use native.Mathlib.Omega.{arith}
@@ -11,7 +11,7 @@ use Rattle.lists.proofs.BufferLaws.{kept, begin, turn, room, finish}
 use Rattle.cnf.specs.Clause.{words}
 use Rattle.clauses.specs.Clauses.{pairs_after}
 use Rattle.encoding.proofs.ClauseLaws.{negated_word, each_room, each_wrote, pair_words}
-use Rattle.option_writer.proofs.PartLaws.{part_wrote}
+use Rattle.option_writer.proofs.PartLaws.{words_wrote}
 use Rattle.option_writer.proofs.emit_pairs_after.Invariants.{block}
 use Rattle.option_writer.proofs.emit_pairs_after.Goals as goal
 
@@ -25,8 +25,8 @@ loop-t-init c = begin _
 pub offset_bounds-out-p : goal.offset_bounds-out-p
 offset_bounds-out-p c = let a = c.args in let l = c.loop-t in omega (arith, fits a.before a.i a.n a.at l.t l.invariant c.requires.n_in_bounds c.loop-t-test.true)
 
-pub slice_bounds-copy_from_slice-end : goal.slice_bounds-copy_from_slice-end
-slice_bounds-copy_from_slice-end c =
+pub slice_bounds-emit_words-end : goal.slice_bounds-emit_words-end
+slice_bounds-emit_words-end c =
     let a = c.args in
     let l = c.loop-t in
     let w = pair_words a.before a.i (a.i + 1 + l.t) (negated_word _ c.value_variable-a.ensures (omega arith)) (negated_word _ c.value_variable-b.ensures (omega arith)) in
@@ -39,13 +39,21 @@ overflow_add-p c =
     let w = pair_words a.before a.i (a.i + 1 + l.t) (negated_word _ c.value_variable-a.ensures (omega arith)) (negated_word _ c.value_variable-b.ensures (omega arith)) in
     record { fits = omega (arith, ap length w, kept l.invariant, fits a.before a.i a.n a.at l.t l.invariant c.requires.n_in_bounds c.loop-t-test.true) }
 
+pub overflow_add-p-in-loop-t : goal.overflow_add-p-in-loop-t
+overflow_add-p-in-loop-t c =
+    let a = c.args in
+    let l = c.loop-t in
+    let w = pair_words a.before a.i (a.i + 1 + l.t) (negated_word _ c.value_variable-a.ensures (omega arith)) (negated_word _ c.value_variable-b.ensures (omega arith)) in
+    let three : 3 ≡ length (words (block a.before a.i l.t)) = ap length w in
+    record { fits = omega (arith, three, (words_wrote l.out l.p w (omega (arith, three)) (fits a.before a.i a.n a.at l.t l.invariant c.requires.n_in_bounds c.loop-t-test.true) c.emit_words-p.ensures).1, kept l.invariant, fits a.before a.i a.n a.at l.t l.invariant c.requires.n_in_bounds c.loop-t-test.true) }
+
 pub loop-t-preserved : goal.loop-t-preserved
 loop-t-preserved c =
     let a = c.args in
     let l = c.loop-t in
     let w = pair_words a.before a.i (a.i + 1 + l.t) (negated_word _ c.value_variable-a.ensures (omega arith)) (negated_word _ c.value_variable-b.ensures (omega arith)) in
     let three : 3 ≡ length (words (block a.before a.i l.t)) = ap length w in
-    turn (λ t. words (block a.before a.i t)) l.invariant (part_wrote l.out l.p (omega (arith, three)) three (fits a.before a.i a.n a.at l.t l.invariant c.requires.n_in_bounds c.loop-t-test.true) (c.copy_from_slice.ensures.after ∙ w))
+    turn (λ t. words (block a.before a.i t)) l.invariant (words_wrote l.out l.p w (omega (arith, three)) (fits a.before a.i a.n a.at l.t l.invariant c.requires.n_in_bounds c.loop-t-test.true) c.emit_words-p.ensures).0
 
 pub shape_of-out : goal.shape_of-out
 shape_of-out c = kept c.loop-t.invariant
