@@ -46,14 +46,9 @@ fn read_sound(diagram: &SoundDiagram, literals: &[i32], out: &mut [u32]) -> Resu
     let counts = diagram.counts;
     refusal::check_room(domains.len(), out.len())?;
     let last = counts.variables() as u32;
-    let names = name_reader::read_names(literals, last, counts.values);
-    // By reference, and not by `?`: so the marks, 2,048 bytes, stand once less on the stack.
-    let marks = match &names {
-        Ok(marks) => marks,
-        Err(r) => return Err(*r),
-    };
+    let marks = name_reader::read_names(literals, last, counts.values)?;
     let mut build = [0u32; OPTIONS];
-    model_values::read_values(domains, marks, &mut build)?;
+    model_values::read_values(domains, &marks, &mut build)?;
     let values = &build[..domains.len()];
     judge_build(diagram, values)?;
     build_writer::write_build(values, out)
