@@ -27,9 +27,11 @@ fn store(n: u64, part: &mut [u8])
     }
 }
 
-// Puts the decimal of n into `out` from `at` on, if there is room for it, and answers how long it is.
+// Puts the decimal of n into `out` from `at` on, if there is room for it, and answers how long it is. It is not taken into its
+// callers: in `write_often` it stands beside what is fast.
 // Stays with a buffer and a place in it, as all that puts bytes does: `PutPromise` says of these what is put.
 #[tactic(auto, using(decimal::proofs::BytesLaws::put_none, decimal::proofs::BytesLaws::put_part))]
+#[inline(never)]
 pub fn write(n: u64, out: &mut [u8], at: usize) -> usize
     ensures { PutPromise (digits n) at out.old result out.new }
 {

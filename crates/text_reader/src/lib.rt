@@ -52,7 +52,8 @@ fn skip_gaps(text: &[u8], at: usize) -> usize
     i
 }
 
-// The words of all tokens from `from` on, one for each entry of the list.
+// The words of all tokens from `from` on, one for each entry of the list. It is not taken into its caller, since the loop needs
+// the registers.
 #[inline(never)]
 fn fill_words(text: &[u8], from: usize, out: &mut [i32])
     requires { (chain (token_rules 1000000 (tokens_from text.now from)) ≡ Ok tt) × (length (tokens_from text.now from) ≡ length out.old) }

@@ -15,7 +15,7 @@ pub struct Pass {
     pub closed: bool,
 }
 
-// Judges the tokens from the left, and counts.
+// Judges the tokens from the left, and counts. It is not taken into its caller, since the loop needs the registers.
 #[inline(never)]
 pub fn judge_tokens(text: &[u8], from: usize, variables: u32) -> Result<Pass, Refusal>
     ensures { result ≡ pass_of variables (tokens_from text.now from) }

@@ -40,6 +40,8 @@ fn put_word(word: i32, out: &mut [u8], at: usize) -> usize
     end + 1
 }
 
+// It is not taken into its caller, since the loop needs the registers.
+#[inline(never)]
 fn put_words(words: &[i32], out: &mut [u8], from: usize) -> usize
     requires { from + length (body words.now) ≤ length out.old }
     ensures { Wrote out.old from (body words.now) out.new result }
