@@ -23,7 +23,7 @@ pub extern "C" fn bb_check(domains: &[u32], layers: &[u32], targets: &[u32], ans
         layers,
         targets,
     });
-    entries::post(answer, checked);
+    entries::post_entries(answer, checked);
 }
 
 #[unsafe(no_mangle)]
@@ -47,7 +47,7 @@ pub extern "C" fn bb_encode(
         },
         out,
     );
-    entries::post(answer, encoded);
+    entries::post_entries(answer, encoded);
 }
 
 #[unsafe(no_mangle)]
@@ -71,7 +71,7 @@ pub extern "C" fn bb_judge(
         },
         build,
     );
-    entries::post(answer, judged);
+    entries::post_entries(answer, judged);
 }
 
 #[unsafe(no_mangle)]
@@ -97,7 +97,7 @@ pub extern "C" fn bb_model(
         literals,
         out,
     );
-    entries::post(answer, read);
+    entries::post_entries(answer, read);
 }
 
 #[unsafe(no_mangle)]
@@ -108,7 +108,7 @@ pub extern "C" fn bb_text_write(v: u32, words: &[i32], out: &mut [u8], answer: &
         return;
     }
     let written = text_writer::write_text(v, words, out);
-    entries::post(answer, written);
+    entries::post_entries(answer, written);
 }
 
 #[unsafe(no_mangle)]
@@ -119,5 +119,5 @@ pub extern "C" fn bb_text_read(text: &[u8], out: &mut [i32], answer: &mut [u64])
         return;
     }
     let read = text_reader::read_text(text, out);
-    entries::post(answer, read);
+    entries::post_entries(answer, read);
 }

@@ -1,17 +1,25 @@
 -- Laws of reading digit by digit, with a cut. Assumes nothing.
 use mathlib.Core.Path.{◌≡◌, refl, sym, ap, ◌∙◌}
-use mathlib.Core.Bool.{Bool, true, cond}
+use mathlib.Core.Bool.{Bool, true, false, cond}
 use mathlib.Core.List.{List, [], ◌∷◌}
 use Prim.Native.Nat.{ℕ, ◌+◌, ◌-◌, ◌*◌, ◌≤◌, ◌<◌}
 use native.Mathlib.Omega.{arith}
 use lib.ListN.{length, get_or, take, drop, length-drop}
-use Rattle.std.specs.Prelude.{Result, Ok, Err}
+use Rattle.std.specs.Prelude.{None, Result, Ok, Err}
+use Rattle.std.specs.Bool.{then_some}
 use Rattle.std.specs.List.{slice_range}
+use Rattle.std.specs.Result.{result_ok}
 use Rattle.decimal.specs.Digits.{is_digit, all_digits, plain, is_decimal, value_from, value}
-use Rattle.decimal.specs.Reading.{run, cut, read_at}
+use Rattle.decimal.specs.Reading.{run, cut, reading_at, read_at}
 use Rattle.decimal.specs.declared.Reading.{Reading}
 use Rattle.decimal.proofs.BytesLaws.{rest_at}
 use Rattle.decimal.proofs.RunLaws.{run_more, run_end, length_run, run_decimal, take_run}
+use Rattle.decimal.proofs.ReadLaws.{ok_read}
+
+-- a value where a test holds is what is kept of it where it is given either way
+ok_some : {X : Type 0} (b : Bool) (x : X) → then_some b x ≡ result_ok (cond b (Ok x) (Err x))
+ok_some true x = refl
+ok_some false x = refl
 
 -- a number that was cut stays cut, whatever digits follow
 cut_from : (v : ℕ) (bs : List ℕ) → cut (value_from (cut v) bs) ≡ cut (value_from v bs)
@@ -57,8 +65,12 @@ module _ (text : List ℕ) (at : ℕ) (rest : List ℕ) (r : rest ≡ slice_rang
   pub end_inside : at ≤ length text → at + n ≤ length text
   end_inside h = omega (arith, d.1, length_run rest, ap length left, length-drop at text)
 
-  pub read_there : (good : Bool) → good ≡ plain (take n rest) → cond good (Ok (record { value = v; end = at + n })) (Err (record { value = v; end = at + n })) ≡ read_at text at
-  read_there good g = rw (g, d.0, d.1, take_run, left, run_decimal)
+  pub digits_there : (good : Bool) → good ≡ plain (take n rest) → cond good (Ok (record { value = v; end = at + n })) (Err (record { value = v; end = at + n })) ≡ read_at text at
+  digits_there good g = rw (g, d.0, d.1, take_run, left, run_decimal)
+
+  -- the same without the digits that are none
+  pub read_there : (good : Bool) → good ≡ plain (take n rest) → then_some good (record { value = v; end = at + n }) ≡ reading_at text at
+  read_there good g = ok_read text at (digits_there good g) (ok_some good _)
 
 -- past the text's end no digit stands
 none_said : (at : ℕ) → at + 0 ≡ at → ◌≡◌ {A = Result Reading Reading} (Err (record { value = 0; end = at })) (cond (is_decimal []) (Ok (record { value = cut (value []); end = at + 0 })) (Err (record { value = cut (value []); end = at + 0 })))
@@ -67,3 +79,7 @@ none_said at e = rw e
 
 pub none_there : (text : List ℕ) (at : ℕ) → length text < at → Err (record { value = 0; end = at }) ≡ read_at text at
 none_there text at h = rw (run_end text at (omega arith)) (none_said at (omega arith))
+
+-- past the text's end nothing is read
+pub none_read : (text : List ℕ) (at : ℕ) → length text < at → None ≡ reading_at text at
+none_read text at h = ok_read text at (none_there text at h) refl

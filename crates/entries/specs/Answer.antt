@@ -1,13 +1,19 @@
 -- What stands in a lent answer after a call through the C interface. Assumes nothing.
-use Rattle.std.specs.Prelude.{◌≡◌, true, false, ◌⊎◌, List, [], ◌∷◌, ℕ, ◌≤◌, ◌<◌, ltb, length, get_or}
+use Rattle.std.specs.Prelude.{◌≡◌, true, false, ◌⊎◌, List, [], ◌∷◌, ℕ, ◌≤◌, ◌<◌, ltb, length, get_or, Result, Ok, Err}
 use Rattle.std.proofs.Common.{sym, ◌∙◌, inl, inr, ltb-true, ltb-false}
 use Rattle.lists.specs.Buffer.{over}
 use Rattle.lists.proofs.UptoLaws.{decide}
-use Rattle.refusal.specs.Said.{Said}
+use Rattle.refusal.specs.Said.{Said, refused, result_of}
+use Rattle.refusal.specs.declared.Refusal.{Refusal}
 
 -- the six entries of an answer: the number, the place, and four for the result's values, 0 where there is none
 abbrev pub entries : Said → List ℕ
 entries s = s.number ∷ s.place ∷ get_or s.values 0 0 ∷ get_or s.values 1 0 ∷ get_or s.values 2 0 ∷ get_or s.values 3 0 ∷ []
+
+-- what is said by a refusal, or by a result's values
+abbrev pub told : Result (List ℕ) Refusal → Said
+told (Ok vs) = result_of vs
+told (Err r) = refused r
 
 -- what is said, without the values
 abbrev pub silent : Said → Said

@@ -8,4 +8,4 @@ pub returns-then-answer-lt-ENTRIES : goal.returns-then-answer-lt-ENTRIES
 returns-then-answer-lt-ENTRIES c = left_short c.if-answer-lt-ENTRIES.true
 
 pub returns : goal.returns
-returns c = answered_as (sym (check_said_lem c.check-checked.ensures)) c.post.ensures
+returns c = answered_as (sym (check_said_lem c.check-checked.ensures)) c.post_entries.ensures

@@ -7,4 +7,4 @@ pub returns-then-answer-lt-ENTRIES : goal.returns-then-answer-lt-ENTRIES
 returns-then-answer-lt-ENTRIES c = left_short c.if-answer-lt-ENTRIES.true
 
 pub returns : goal.returns
-returns c = answered_as (sym c.judge-judged.ensures.says) c.post.ensures
+returns c = answered_as (sym c.judge-judged.ensures.says) c.post_entries.ensures

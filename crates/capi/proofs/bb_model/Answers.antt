@@ -6,4 +6,4 @@ pub returns-then-answer-lt-ENTRIES : goal.returns-then-answer-lt-ENTRIES
 returns-then-answer-lt-ENTRIES c = called_short c.if-answer-lt-ENTRIES.true
 
 pub returns : goal.returns
-returns c = called_long c.if-answer-lt-ENTRIES.false c.read_model-read.ensures c.post.ensures
+returns c = called_long c.if-answer-lt-ENTRIES.false c.read_model-read.ensures c.post_entries.ensures

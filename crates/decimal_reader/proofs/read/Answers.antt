@@ -4,7 +4,7 @@ use mathlib.Core.Bool.{true, false}
 use native.Mathlib.Omega.{arith}
 use Rattle.std.proofs.lemmas.List.{length-take-le}
 use Rattle.decimal.proofs.RunLaws.{length_run}
-use Rattle.decimal_reader.proofs.ReadLaws.{none_there, end_inside, read_there}
+use Rattle.decimal_reader.proofs.ReadLaws.{none_there, end_inside, digits_there}
 use Rattle.decimal_reader.proofs.read.Goals as goal
 
 pub returns-in_default : goal.returns-in_default
@@ -17,7 +17,7 @@ pub slice_bounds-is_plain-end : goal.slice_bounds-is_plain-end
 slice_bounds-is_plain-end c = sym (length-take-le _ _ (omega (arith, length_run c.in-Some.rest.now, c.first_digits-value.ensures.1)))
 
 pub returns-then-is_plain : goal.returns-then-is_plain
-returns-then-is_plain c = read_there _ _ _ (c.in-Some.ensures.lookup.0).2 _ _ c.first_digits-value.ensures true (sym c.if-is_plain.true ∙ c.is_plain.ensures)
+returns-then-is_plain c = digits_there _ _ _ (c.in-Some.ensures.lookup.0).2 _ _ c.first_digits-value.ensures true (sym c.if-is_plain.true ∙ c.is_plain.ensures)
 
 pub returns-else-is_plain : goal.returns-else-is_plain
-returns-else-is_plain c = read_there _ _ _ (c.in-Some.ensures.lookup.0).2 _ _ c.first_digits-value.ensures false (sym c.if-is_plain.false ∙ c.is_plain.ensures)
+returns-else-is_plain c = digits_there _ _ _ (c.in-Some.ensures.lookup.0).2 _ _ c.first_digits-value.ensures false (sym c.if-is_plain.false ∙ c.is_plain.ensures)

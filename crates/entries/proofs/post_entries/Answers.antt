@@ -1,7 +1,7 @@
--- `entries::post` meets its contract: the entries are those of what is said. Assumes nothing.
+-- `entries::post_entries` meets its contract: the entries are those of what is said. Assumes nothing.
 use Rattle.lists.specs.Buffer.{over}
 use Rattle.entries.proofs.AnswerLaws.{left_long}
-use Rattle.entries.proofs.post.Goals as goal
+use Rattle.entries.proofs.post_entries.Goals as goal
 
 pub returns-then-answer-ge-ENTRIES : goal.returns-then-answer-ge-ENTRIES
 unfolding over
