@@ -1,5 +1,5 @@
-// What each function of the library answers, as the six entries of an answer through the C interface; and these put into a lent
-// answer. Assumes nothing.
+// What each function of the library answers, as the six entries of an answer through the C interface, or as values or a refusal;
+// and the entries put into a lent answer. Assumes nothing.
 #![tactic(auto)]
 
 ghost use Rattle.std.specs.Prelude.{◌≡◌};
